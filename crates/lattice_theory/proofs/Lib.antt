@@ -1,0 +1,5 @@
+pub mod Integers
+pub mod Orders
+pub mod Unique
+pub mod Divisors
+pub mod ExampleSteps

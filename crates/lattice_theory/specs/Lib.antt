@@ -1,0 +1,9 @@
+pub mod Vector
+pub mod Affine
+pub mod Order
+pub mod Size
+pub mod Hull
+pub mod Facet
+pub mod Points
+pub mod Laws
+pub mod Examples
