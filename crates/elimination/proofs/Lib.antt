@@ -1,0 +1,14 @@
+pub mod Members
+pub mod Vectors
+pub mod Divisibility
+pub mod KernelForm
+pub mod KernelStep
+pub mod KernelPivot
+pub mod KernelStart
+pub mod KernelGrowth
+pub mod KernelLaws
+pub mod KernelSize
+pub mod PrimitiveLaws
+pub mod KernelPlaces
+pub mod Examples
+pub mod FlatUnique
