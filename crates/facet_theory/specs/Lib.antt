@@ -1,0 +1,9 @@
+pub use Rattle.lattice_theory.specs.Vector
+pub use Rattle.lattice_theory.specs.Affine
+pub use Rattle.lattice_theory.specs.Order
+pub use Rattle.lattice_theory.specs.Size
+pub use Rattle.lattice_theory.specs.Hull
+pub use Rattle.lattice_theory.specs.Facet
+pub use Rattle.lattice_theory.specs.Points
+pub mod Sums
+pub mod Laws
