@@ -1,0 +1,3 @@
+pub mod Compare
+pub mod Limits
+pub mod Divisors

@@ -1,0 +1,95 @@
+//! What can go wrong: want of memory, and refusals of an item.
+ghost use Rattle.std.specs.Prelude.{◌≡◌};
+ghost use Rattle.lattice_core.specs.declared.faults.Fault.TheVariants as Fault;
+
+use crate::Functional;
+use std::alloc::{AllocError, AllocFailed};
+
+/// There was no memory for what had to be kept.
+#[derive(Clone, Copy, Debug, PartialEq, Eq)]
+pub struct NoMemory;
+
+impl From<AllocError> for NoMemory {
+    fn from(_: AllocError) -> NoMemory {
+        NoMemory
+    }
+}
+
+impl<T: Drop> From<AllocFailed<T>> for NoMemory {
+    fn from(_: AllocFailed<T>) -> NoMemory {
+        NoMemory
+    }
+}
+
+/// Which limit an item exceeds.
+#[derive(Clone, Copy, Debug, PartialEq, Eq)]
+pub enum LimitName {
+    /// The number of lattice points.
+    Points,
+}
+
+/// Why an item is refused.
+#[derive(Clone, Debug, Drop, PartialEq, Eq)]
+pub enum Refusal {
+    /// The points are flat, and this is their flat function.
+    Flat(Functional),
+    /// The named limit is exceeded, by the number told.
+    Limit(LimitName, u128),
+}
+
+/// What stops the work on an item.
+#[derive(Clone, Debug, Drop, PartialEq, Eq)]
+pub enum Fault {
+    /// The item is refused.
+    Refused(Refusal),
+    /// There was no memory.
+    NoMemory,
+}
+
+impl From<NoMemory> for Fault {
+    ghost from_gives = { λ _ fault. fault ≡ Fault.NoMemory };
+
+    fn from(_: NoMemory) -> Fault {
+        Fault::NoMemory
+    }
+}
+
+impl From<AllocError> for Fault {
+    ghost from_gives = { λ _ fault. fault ≡ Fault.NoMemory };
+
+    fn from(_: AllocError) -> Fault {
+        Fault::NoMemory
+    }
+}
+
+impl<T: Drop> From<AllocFailed<T>> for Fault {
+    ghost from_gives = { λ _ fault. fault ≡ Fault.NoMemory };
+
+    fn from(_: AllocFailed<T>) -> Fault {
+        Fault::NoMemory
+    }
+}
+
+impl From<Refusal> for Fault {
+    ghost from_gives = { λ refusal fault. fault ≡ Fault.Refused refusal };
+
+    fn from(refusal: Refusal) -> Fault {
+        Fault::Refused(refusal)
+    }
+}
+
+#[cfg(test)]
+mod tests {
+    use super::*;
+
+    #[test]
+    fn tells_want_of_memory_and_refusals(rt: HostRuntime) {
+        assert_eq!(rt; Fault::from(AllocError), Fault::NoMemory);
+        assert_eq!(rt; Fault::from(NoMemory::from(AllocError)), Fault::NoMemory);
+        let refusal = Refusal::Limit(LimitName::Points, 16_385);
+        assert_eq!(rt;
+            Fault::from(refusal),
+            Fault::Refused(Refusal::Limit(LimitName::Points, 16_385))
+        );
+    }
+}

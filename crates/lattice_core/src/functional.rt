@@ -1,0 +1,158 @@
+//! Affine functions with integer coefficients.
+ghost use Rattle.std.specs.Prelude.{◌≡◌, ◌^◌, ◌≤◌, ◌↔◌, length, nat_abs, IsSome, IfSome, IsTrue, ⊤};
+ghost use Rattle.lattice_theory.specs.Affine.{Affine, value};
+ghost use Rattle.lattice_theory.specs.Order.{FunctionLess};
+ghost use Rattle.lattice_theory.specs.Size.{weight};
+ghost use Rattle.lattice_core.specs.Compare.{Compares};
+
+use crate::entries::held;
+use crate::{Point, pair};
+use arrayvec::ArrayVec;
+use std::alloc::AllocError;
+use std::cmp::Ordering;
+use std::marker::Model;
+
+/// An affine function: a normal of 1 to 6 integers, and a constant. Contracts see the record of the two.
+#[derive(Debug, Drop, PartialEq, Eq, PartialOrd, Ord)]
+pub struct Functional {
+    normal: ArrayVec<i64, 6>,
+    constant: i128,
+}
+
+impl Model for Functional {
+    ghost use Rattle.std.specs.Prelude.{◌≤◌, length};
+    ghost use Rattle.lattice_theory.specs.Affine.{Affine};
+
+    ghost Value = { Affine };
+
+    ghost view = { λ f. record { normal = f.normal.items; constant = f.constant } };
+
+    ghost invariant = { λ f. (1 ≤ length f.normal.items) × (length f.normal.items ≤ 6) };
+
+    ghost inverse = { λ f. record { normal = record { items = f.normal }; constant = f.constant } };
+}
+
+impl Clone for Functional {
+    ghost is_clone = { λ f g. g ≡ f };
+
+    ghost is_infallible = { λ _. ⊤ };
+
+    fn clone(&self) -> Result<Functional, AllocError> {
+        Ok(self.copied())
+    }
+}
+
+impl Functional {
+    /// The function with this normal and this constant. It is `None` exactly where the normal has no entry or more than 6.
+    pub fn new(normal: &[i64], constant: i128) -> Option<Functional>
+        ensures variant { IsSome result ↔ ((1 ≤ length normal.now) × (length normal.now ≤ 6)) }
+        ensures parts { IfSome result (λ f. (f.normal ≡ normal.now) × (f.constant ≡ constant)) }
+    {
+        if normal.is_empty() || normal.len() > 6 {
+            return None;
+        }
+        Some(Functional {
+            normal: held(normal),
+            constant,
+        })
+    }
+
+    /// The normal's entries, in order.
+    #[inline]
+    pub fn normal(&self) -> &[i64]
+        ensures value { result.now ≡ self.now.normal }
+        ensures least { 1 ≤ length result.now }
+        ensures most { length result.now ≤ 6 }
+    {
+        self.normal.as_slice()
+    }
+
+    /// The constant.
+    #[inline]
+    pub fn constant(&self) -> i128
+        ensures { result ≡ self.now.constant }
+    {
+        self.constant
+    }
+
+    /// The number of the normal's entries, 1 to 6.
+    #[inline]
+    pub fn dim(&self) -> usize
+        ensures value { result ≡ length self.now.normal }
+        ensures least { 1 ≤ result }
+        ensures most { result ≤ 6 }
+    {
+        self.normal.len()
+    }
+
+    /// The function's value at a point of the same dimension.
+    #[inline]
+    pub fn at(&self, p: &Point) -> i128
+        requires dimension { length self.now.normal ≡ length p.now }
+        requires small { weight p.now ≤ 2 ^ 33 }
+        requires constant { nat_abs self.now.constant ≤ 2 ^ 100 }
+        ensures { result ≡ value self.now p.now }
+    {
+        pair(self.normal(), p.entries()) + self.constant
+    }
+
+    /// The same function again. It takes no memory.
+    pub fn copied(&self) -> Functional
+        ensures { result ≡ self.now }
+    {
+        Functional {
+            normal: held(self.normal.as_slice()),
+            constant: self.constant,
+        }
+    }
+
+    /// How this function stands to another of the same dimension: by normal in lexicographic order, then by constant.
+    pub fn cmp_order(&self, other: &Functional) -> Ordering
+        requires { length self.now.normal ≡ length other.now.normal }
+        ensures cases { Compares FunctionLess self.now other.now result }
+        ensures less { FunctionLess self.now other.now → result ≡ Ordering.Less }
+        ensures equal { self.now ≡ other.now → result ≡ Ordering.Equal }
+        ensures greater { FunctionLess other.now self.now → result ≡ Ordering.Greater }
+    {
+        self.cmp(other)
+    }
+
+    /// Whether the two are the same function.
+    pub fn is_same(&self, other: &Functional) -> bool
+        ensures { IsTrue result ↔ (self.now ≡ other.now) }
+    {
+        self == other
+    }
+}
+
+#[cfg(test)]
+mod tests {
+    use super::*;
+
+    #[test]
+    fn answers_its_values(rt: HostRuntime) {
+        let f = Functional::new(&[-3, -4], 5).expect(&rt, "two entries");
+        assert_eq!(rt; f.dim(), 2);
+        assert_eq!(rt; f.normal(), [-3, -4].as_slice());
+        assert_eq!(rt; f.constant(), 5);
+        assert!(rt; f.is_same(&f.copied()));
+        assert!(rt; Functional::new(&[], 5).is_none());
+        for (x, want) in [([3, -1], 0), ([-1, -1], 12), ([0, 0], 5)] {
+            let p = Point::new(&x).expect(&rt, "two entries");
+            assert_eq!(rt; f.at(&p), want);
+        }
+    }
+
+    #[test]
+    fn compares_by_normal_and_then_constant(rt: HostRuntime) {
+        for (constant, want) in [
+            (4, Ordering::Greater),
+            (5, Ordering::Equal),
+            (6, Ordering::Less),
+        ] {
+            let f = Functional::new(&[1, 0], 5).expect(&rt, "two entries");
+            let g = Functional::new(&[1, 0], constant).expect(&rt, "two entries");
+            assert_eq!(rt; f.cmp_order(&g), want);
+        }
+    }
+}

@@ -1,0 +1,23 @@
+//! Points and affine functions with numbers of fixed width, their exact values, their orders, and the faults and limits that the crates above
+//! share. It stands on `lattice_theory`, whose definitions its contracts cite, and on the kit's `arrayvec`.
+//! Its central theorem: within the stated sizes no operation overflows, and each answers the exact integer of the definition.
+#![tactic(auto)]
+
+mod ascending;
+mod divisors;
+mod entries;
+mod faults;
+mod functional;
+mod limits;
+mod pairing;
+mod point;
+mod sizes;
+
+pub use ascending::{ascending_functions, ascending_points};
+pub use divisors::{gcd, primitive};
+pub use faults::{Fault, LimitName, NoMemory, Refusal};
+pub use functional::Functional;
+pub use limits::size_limit;
+pub use pairing::pair;
+pub use point::Point;
+pub use sizes::size_of;

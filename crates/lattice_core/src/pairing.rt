@@ -1,0 +1,41 @@
+//! The pairing of two vectors.
+ghost use Rattle.std.specs.Prelude.{◌≡◌, ◌^◌, ◌≤◌, ◌*◌, ◌*ℤ◌, length, nat_abs};
+ghost use Rattle.lattice_theory.specs.Vector.{dot};
+ghost use Rattle.lattice_theory.specs.Size.{weight};
+
+/// The sum of the products of the entries.
+#[inline]
+pub fn pair(a: &[i64], b: &[i64]) -> i128
+    requires same_length { length a.now ≡ length b.now }
+    requires most { length b.now ≤ 6 }
+    requires small { weight b.now ≤ 2 ^ 33 }
+    ensures value { result ≡ dot a.now b.now }
+    ensures bound { nat_abs result ≤ 2 ^ 96 }
+{
+    let mut sum = 0_i128;
+    for i in 0..a.len() {
+        sum += product(a[i], b[i]);
+    }
+    sum
+}
+
+#[inline]
+fn product(a: i64, b: i64) -> i128
+    ensures { result ≡ a *ℤ b }
+{
+    i128::from(a) * i128::from(b)
+}
+
+#[cfg(test)]
+mod tests {
+    use super::*;
+
+    #[test]
+    fn adds_products(rt: HostRuntime) {
+        assert_eq!(rt; pair(&[1, -2, 3], &[4, 5, 6]), 12);
+        assert_eq!(rt;
+            pair(&[i64::MIN], &[-8_589_934_592]),
+            79_228_162_514_264_337_593_543_950_336
+        );
+    }
+}
