@@ -1,0 +1,7 @@
+pub mod Plane
+pub mod Sizes
+pub mod Lines
+pub mod LineSizes
+pub mod FlatLines
+pub mod Candidates
+pub mod Tight
