@@ -1,0 +1,10 @@
+mod Digits
+mod FrontsAreSingle
+mod Buffers
+mod Boxes
+mod Spans
+mod Sublists
+mod LatticePoints
+mod PointSizes
+mod Readings
+mod SingleAnswers

@@ -1,0 +1,11 @@
+pub mod Numerals
+pub mod Texts
+pub mod Fronts
+pub mod Reports
+pub mod Statuses
+pub mod Notes
+pub mod Scans
+pub mod Answers
+pub mod Intakes
+pub mod Runs
+pub mod Laws

@@ -1,0 +1,12 @@
+-- The exit status of each outcome. This project's own.
+use Rattle.std.specs.Prelude.{ℕ}
+use Rattle.palp_engine.specs.declared.outcome.Outcome.{Outcome}
+use Rattle.palp_engine.specs.declared.outcome.Outcome.TheVariants.{Done, Refused, NotBuilt, ReadFault, WriteFault, NoMemory}
+
+abbrev pub status : Outcome → ℕ
+status Done = 0
+status (Refused item cause) = 4
+status NotBuilt = 8
+status ReadFault = 6
+status WriteFault = 7
+status NoMemory = 1

@@ -1,0 +1,111 @@
+//! The lines that are printed.
+
+ghost use Rattle.std.specs.Prelude.{◌≡◌, ℕ, ◌+◌, ◌*◌, ◌≤◌, List, ◌++◌, length, MatchOption, option_map, codes};
+ghost use Rattle.std.specs.Fmt.{decimal};
+ghost use Rattle.arrayvec.specs.ArrayVec.{array_vec_len};
+ghost use Rattle.palp_engine.specs.Reports.{body_line as body_line_of};
+ghost use Rattle.palp_engine.specs.Notes.{note_line as note_line_of, function_text, refusal_text};
+
+use crate::Outcome;
+use arrayvec::ArrayVec;
+use itoa::{Buffer, Integer};
+use lattice_core::{Functional, LimitName, Refusal};
+
+/// A line that is printed: at most 512 bytes, with its line end.
+pub(crate) type Line = ArrayVec<u8, 512>;
+
+/// Appends bytes for which there is room.
+fn put(line: &mut Line, bytes: &[u8])
+    requires { array_vec_len line.old + length bytes.now ≤ 512 }
+    ensures bytes { line.new.items ≡ line.old.items ++ bytes.now }
+    ensures len { array_vec_len line.new ≡ array_vec_len line.old + length bytes.now }
+{
+    let _ = line.try_extend_from_slice(bytes);
+}
+
+/// Appends a number in decimal, for which there is room.
+fn put_number<I: Integer>(line: &mut Line, number: I)
+    requires { array_vec_len line.old + 40 ≤ 512 }
+    ensures bytes { line.new.items ≡ line.old.items ++ I.text number }
+    ensures len { array_vec_len line.new ≤ array_vec_len line.old + 40 }
+{
+    let mut buffer = Buffer::new();
+    put(line, buffer.format(number).as_bytes());
+}
+
+/// The line that tells the numbers of lattice points, vertices and facets.
+pub(crate) fn body_line(points: u64, vertices: u64, facets: u64) -> Line
+    ensures { result.items ≡ body_line_of points vertices facets }
+{
+    let mut line = Line::new();
+    put(&mut line, b"M:");
+    put_number(&mut line, points);
+    put(&mut line, b" ");
+    put_number(&mut line, vertices);
+    put(&mut line, b" F:");
+    put_number(&mut line, facets);
+    put(&mut line, b"\n");
+    line
+}
+
+/// Appends the normal's entries, each with a space behind it, and the constant.
+fn put_function(line: &mut Line, function: &Functional)
+    requires { array_vec_len line.old ≤ 100 }
+    ensures bytes { line.new.items ≡ line.old.items ++ function_text function.now }
+    ensures len { array_vec_len line.new ≤ array_vec_len line.old + 300 }
+{
+    for entry in function.normal() {
+        put_number(line, *entry);
+        put(line, b" ");
+    }
+    put_number(line, function.constant());
+}
+
+/// Appends what the note says of a refusal.
+fn put_refusal(line: &mut Line, cause: &Refusal)
+    requires { array_vec_len line.old ≤ 80 }
+    ensures bytes { line.new.items ≡ line.old.items ++ refusal_text cause.now }
+    ensures len { array_vec_len line.new ≤ array_vec_len line.old + 320 }
+{
+    match cause {
+        Refusal::Flat(function) => {
+            put(line, b"flat: ");
+            put_function(line, function);
+        }
+        Refusal::Limit(LimitName::Points, told) => {
+            put(line, b"limit Points: ");
+            put_number(line, *told);
+        }
+    }
+}
+
+/// A line of the given text.
+fn fixed(text: &[u8]) -> Line
+    requires { length text.now ≤ 512 }
+    ensures { result.items ≡ text.now }
+{
+    let mut line = Line::new();
+    put(&mut line, text);
+    line
+}
+
+/// The note line of an outcome, with its line end; none for `Done`. It takes no memory.
+pub(crate) fn note_line(outcome: &Outcome) -> Option<Line>
+    ensures { option_map (λ line. line.items) result ≡ note_line_of outcome.now }
+{
+    match outcome {
+        Outcome::Done => None,
+        Outcome::Refused { item, cause } => {
+            let mut line = fixed(b"palp: item ");
+            put_number(&mut line, *item);
+            put(&mut line, b": ");
+            put_refusal(&mut line, cause);
+            put(&mut line, b"\n");
+            Some(line)
+        }
+        Outcome::NotBuilt => Some(fixed(b"palp: not built\n")),
+        Outcome::ReadFault => Some(fixed(b"palp: read fault\n")),
+        Outcome::WriteFault => Some(fixed(b"palp: write fault\n")),
+        Outcome::NoMemory => Some(fixed(b"palp: no memory\n")),
+    }
+}
