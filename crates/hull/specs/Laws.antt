@@ -1,11 +1,11 @@
--- Laws of facets of the plane, as statements.
-use Rattle.std.specs.Prelude.{List, ℤ}
+-- The law on the size of facets, as a statement.
+use Rattle.std.specs.Prelude.{ℕ, List, ℤ}
 use Rattle.lattice_theory.specs.Affine.{Affine}
 use Rattle.lattice_theory.specs.Size.{size}
 use Rattle.lattice_theory.specs.Facet.{IsFacet}
 use Rattle.facet_theory.specs.Laws.{AreSolid}
-use Rattle.hull.specs.Lines.{IsWithin}
+use Rattle.hull.specs.Bounded.{IsWithin}
 
--- the facets of points of the plane that aren't flat are as small as lines through two of the points
-abbrev pub PlaneFacetsBounded : Type 0
-PlaneFacetsBounded = (points : List (List ℤ)) → AreSolid 2 points → (f : Affine) → IsFacet 2 points f → IsWithin (size 2 points) f
+-- each facet of points that aren't flat has a normal with entries of at most (2S)^(n-1) and a constant of at most (2S)^(n-1) S, for their size S
+abbrev pub FacetsBounded : Type 0
+FacetsBounded = (n : ℕ) (points : List (List ℤ)) → AreSolid n points → (f : Affine) → IsFacet n points f → IsWithin n (size n points) f

@@ -1,4 +1,9 @@
+pub mod Hyperplanes
+pub mod Bounded
 pub mod Faults
-pub mod Lines
+pub mod Built
+pub mod Differences
+pub mod Kernels
+pub mod Search
 pub mod Tight
 pub mod Laws

@@ -1,9 +1,9 @@
-//! How large facets of the plane are.
+//! How large facets are.
 
-ghost use Rattle.hull.specs.Laws.{PlaneFacetsBounded};
+ghost use Rattle.hull.specs.Laws.{FacetsBounded};
 
-/// Each facet of points of the plane that aren't flat has a normal with entries of at most twice the points' size, and a constant of
-/// at most twice the square of the size.
-pub fn plane_facets_bounded()
-    ensures { PlaneFacetsBounded }
+/// Each facet of points with n coordinates that aren't flat has a normal with entries of at most (2S)^(n-1), and a constant of at most
+/// (2S)^(n-1) S, where S is the points' size.
+pub fn facets_bounded()
+    ensures { FacetsBounded }
 {}

@@ -1,94 +1,91 @@
-//! The facets of points of the plane: the lines through two of them with no point on the negative side.
+//! The facets of points.
 
-ghost use Rattle.std.specs.Prelude.{◌≡◌, ◌↔◌, ◌^◌, ◌<◌, ◌≤◌, length, IfOk, OnOk, IfErr};
-ghost use Rattle.std.specs.List.{All, Contains};
+ghost use Rattle.std.specs.Prelude.{◌≡◌, ◌<◌, ◌≤◌, length, IfOk, OnOk, IfErr};
+ghost use Rattle.std.specs.List.{All};
 ghost use Rattle.lattice_theory.specs.Vector.{HaveDimension};
-ghost use Rattle.lattice_theory.specs.Affine.{Affine};
-ghost use Rattle.lattice_theory.specs.Size.{size, weight};
+ghost use Rattle.lattice_theory.specs.Size.{size};
 ghost use Rattle.lattice_theory.specs.Facet.{IsFlat, AreFacets};
-ghost use Rattle.lattice_core.specs.Limits.{size_limit_of};
-ghost use Rattle.hull.specs.Faults.{IsFacetsFault};
-ghost use Rattle.hull.specs.Lines.{IsSupportingBetween, IsSupportingTo, IsSupportingLine, AddsEach, IsWithin};
+ghost use Rattle.lattice_core.specs.Dimensions.{dimension_of};
+ghost use Rattle.hull.specs.Bounded.{IsWithin};
+ghost use Rattle.hull.specs.Faults.{IsSized, IsSizeRefusal, IsStartRefusal, IsFacetsFault, facet_limit};
 
-use crate::flat::flat_line;
-use crate::line::{is_nonnegative_on, line_through};
-use lattice_core::{Fault, Functional, NoMemory, Point, Refusal, ascending_functions};
+use crate::flat::flat_function;
+use crate::kernel::kernel_of_none;
+use crate::search::add_facets_from;
+use lattice_core::{
+    Fault, Functional, LimitName, NoMemory, Point, Refusal, ascending_functions, size_limit,
+    size_of,
+};
 use std::alloc::Global;
 
-/// Adds the line from one point to another, where there is one and it is a supporting line.
-fn add_line(
-    points: &[Point],
-    from: &Point,
-    to: &Point,
-    lines: &mut Vec<Functional>,
-) -> Result<(), NoMemory>
-    requires plane { HaveDimension 2 points.now }
-    requires small { All (λ p. weight p ≤ 2 ^ 30) points.now }
-    requires plane_from { length from.now ≡ 2 }
-    requires small_from { weight from.now ≤ 2 ^ 30 }
-    requires plane_to { length to.now ≡ 2 }
-    requires small_to { weight to.now ≤ 2 ^ 30 }
-    ensures { OnOk result (AddsEach (IsSupportingBetween points.now from.now to.now) lines.old.items lines.new.items) }
+/// The most facets that are handed out.
+const FACET_LIMIT: usize = 128;
+
+/// All facets of points within the size limit that aren't flat, each once, ordered by normal and then by constant.
+pub(crate) fn all_facets(alloc: Global, points: &[Point]) -> Result<Vec<Functional>, NoMemory>
+    requires some { 0 < length points.now }
+    requires one_dimension { HaveDimension (dimension_of points.now) points.now }
+    requires within { IsSized (dimension_of points.now) points.now }
+    requires solid { IsFlat (dimension_of points.now) points.now → ⊥ }
+    ensures { IfOk result (λ fs. AreFacets (dimension_of points.now) points.now fs.items) }
 {
-    let Some(line) = line_through(from, to) else {
-        return Ok(());
-    };
-    if !is_nonnegative_on(points, &line) {
-        return Ok(());
+    let mut facets = Vec::new(alloc);
+    let kernel = kernel_of_none(points[0].dim());
+    for i in 0..points.len() {
+        add_facets_from(points, &points[i], i + 1, kernel.as_slice(), &mut facets)?;
     }
-    lines.push(line)?;
-    Ok(())
+    ascending_functions(&mut facets);
+    Ok(facets)
 }
 
-/// Adds the supporting lines from one point to each of the others. After an error some of them are missing.
-fn add_lines_from(
-    points: &[Point],
-    from: &Point,
-    lines: &mut Vec<Functional>,
-) -> Result<(), NoMemory>
-    requires plane { HaveDimension 2 points.now }
-    requires small { All (λ p. weight p ≤ 2 ^ 30) points.now }
-    requires plane_from { length from.now ≡ 2 }
-    requires small_from { weight from.now ≤ 2 ^ 30 }
-    ensures { OnOk result (AddsEach (IsSupportingTo points.now from.now points.now) lines.old.items lines.new.items) }
+/// Refuses points that are too large.
+pub(crate) fn sized(points: &[Point]) -> Result<(), Refusal>
+    requires some { 0 < length points.now }
+    requires one_dimension { HaveDimension (dimension_of points.now) points.now }
+    ensures within { OnOk result (IsSized (dimension_of points.now) points.now) }
+    ensures refused { IfErr result (IsSizeRefusal (dimension_of points.now) points.now) }
 {
-    for to in points {
-        add_line(points, from, to, lines)?;
+    let n = points[0].dim();
+    let size = size_of(n, points);
+    if size > size_limit(n) as u128 {
+        return Err(Refusal::Limit(LimitName::Size, size));
     }
     Ok(())
 }
 
-/// All supporting lines; one may stand there more than once.
-fn supporting_lines(alloc: Global, points: &[Point]) -> Result<Vec<Functional>, NoMemory>
-    requires plane { HaveDimension 2 points.now }
-    requires small { All (λ p. weight p ≤ 2 ^ 30) points.now }
-    ensures { IfOk result (λ lines. (f : Affine) → Contains lines.items f ↔ IsSupportingLine points.now f) }
+/// Refuses points that are too large, and then flat ones.
+pub(crate) fn solid(points: &[Point]) -> Result<(), Refusal>
+    requires some { 0 < length points.now }
+    requires one_dimension { HaveDimension (dimension_of points.now) points.now }
+    ensures within { OnOk result (IsSized (dimension_of points.now) points.now) }
+    ensures solid { OnOk result (IsFlat (dimension_of points.now) points.now → ⊥) }
+    ensures refused { IfErr result (IsStartRefusal (dimension_of points.now) points.now) }
 {
-    let mut lines = Vec::new(alloc);
-    for from in points {
-        add_lines_from(points, from, &mut lines)?;
+    sized(points)?;
+    match flat_function(points) {
+        Some(function) => Err(Refusal::Flat(function)),
+        None => Ok(()),
     }
-    Ok(lines)
 }
 
-/// All facets of points of the plane, each once, ordered by normal and then by constant. At least one point, at most 64, within the
-/// size limit; points may repeat. Flat points are refused with their flat function, and nothing else is refused but for memory.
-/// Normals have entries of at most twice the points' size, so a facet's value at a point is at most the square of that.
-/// Source: math/0204356, section 2.
+/// All facets of points with 1 to 6 coordinates, each once, ordered by normal and then by constant. There is at least one point; points may
+/// repeat. Refused are, in this order, points whose size is above the limit of their dimension (the size is told), flat points (with their flat
+/// function), and points with more than 128 facets (their number is told). For their size S, a facet's normal has entries of at most
+/// (2S)^(n-1). Source: math/0204356, section 2.
 pub fn facets_of(alloc: Global, points: &[Point]) -> Result<Vec<Functional>, Fault>
     requires some { 0 < length points.now }
-    requires plane { HaveDimension 2 points.now }
-    requires few { length points.now ≤ 64 }
-    requires within { size 2 points.now ≤ size_limit_of 2 }
-    ensures facets { IfOk result (λ fs. AreFacets 2 points.now fs.items) }
-    ensures solid { OnOk result (IsFlat 2 points.now → ⊥) }
-    ensures bounded { IfOk result (λ fs. All (IsWithin (size 2 points.now)) fs.items) }
-    ensures refused { IfErr result (IsFacetsFault 2 points.now) }
+    requires one_dimension { HaveDimension (dimension_of points.now) points.now }
+    ensures facets { IfOk result (λ fs. AreFacets (dimension_of points.now) points.now fs.items) }
+    ensures within { OnOk result (IsSized (dimension_of points.now) points.now) }
+    ensures solid { OnOk result (IsFlat (dimension_of points.now) points.now → ⊥) }
+    ensures few { IfOk result (λ fs. length fs.items ≤ facet_limit) }
+    ensures bounded { IfOk result (λ fs. All (IsWithin (dimension_of points.now) (size (dimension_of points.now) points.now)) fs.items) }
+    ensures refused { IfErr result (IsFacetsFault (dimension_of points.now) points.now) }
 {
-    if let Some(function) = flat_line(points) {
-        return Err(Fault::Refused(Refusal::Flat(function)));
+    solid(points)?;
+    let facets = all_facets(alloc, points)?;
+    if facets.len() > FACET_LIMIT {
+        return Err(Fault::Refused(Refusal::Limit(LimitName::Facets, facets.len() as u128)));
     }
-    let mut facets = supporting_lines(alloc, points)?;
-    ascending_functions(&mut facets);
     Ok(facets)
 }

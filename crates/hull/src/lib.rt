@@ -1,15 +1,26 @@
-//! Facets and vertices of the hull of points in the plane. It stands on `lattice_core` for numbers and points, and on the laws of
-//! `facet_theory`. Its central theorem: `facets_of` gives exactly the facets of the definition, and `vertices_of` exactly the vertices.
+//! Facets and vertices of the hull of points with 1 to 6 coordinates. It stands on `lattice_core` for numbers and points, on the laws of
+//! `elimination` and `facet_theory` for what they mean, and on `normal_bounds` for how large the numbers are. Its central theorem: `facets_of`
+//! gives exactly the facets of the definition, and `vertices_of` exactly the vertices.
 #![tactic(auto)]
 
 mod bounds;
+mod builder;
+mod differences;
 mod facets;
 mod flat;
-mod line;
+mod functions;
+mod kernel;
+mod member;
+mod planes;
+mod reduction;
+mod search;
 mod vertices;
 
-pub use bounds::plane_facets_bounded;
+pub use bounds::facets_bounded;
+pub use builder::HullBuilder;
 pub use facets::facets_of;
+pub use flat::flat_function;
+pub use planes::hyperplane;
 pub use vertices::vertices_of;
 
 #[cfg(test)]

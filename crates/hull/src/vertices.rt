@@ -1,24 +1,26 @@
-//! The vertices of points of the plane.
+//! The vertices of points.
 
-ghost use Rattle.std.specs.Prelude.{◌≡◌, ◌↔◌, ◌^◌, ◌≤◌, length, nat_abs, IfOk, IfErr, IsTrue};
+ghost use Rattle.std.specs.Prelude.{◌≡◌, ◌↔◌, ◌^◌, ◌<◌, ◌≤◌, length, nat_abs, IfOk, IfErr, IsTrue};
 ghost use Rattle.std.specs.List.{All};
 ghost use Rattle.lattice_theory.specs.Vector.{HaveDimension};
-ghost use Rattle.lattice_theory.specs.Size.{size, weight};
+ghost use Rattle.lattice_theory.specs.Size.{weight};
 ghost use Rattle.lattice_theory.specs.Hull.{AreVertices};
 ghost use Rattle.lattice_theory.specs.Facet.{IsFlat, AreFacets};
-ghost use Rattle.lattice_core.specs.Limits.{size_limit_of};
-ghost use Rattle.hull.specs.Faults.{IsMemoryFault};
+ghost use Rattle.lattice_core.specs.Dimensions.{dimension_of};
+ghost use Rattle.hull.specs.Faults.{IsSized, IsVerticesFault, vertex_limit};
 ghost use Rattle.hull.specs.Tight.{LiesWith, LiesAlone};
 
-use lattice_core::{Fault, Functional, Point, ascending_points};
+use lattice_core::{Fault, Functional, LimitName, NoMemory, Point, Refusal, ascending_points};
 use std::alloc::Global;
+
+/// The most vertices that are handed out.
+const VERTEX_LIMIT: usize = 128;
 
 /// Whether p lies on every facet on which v lies.
 fn lies_with(facets: &[Functional], v: &Point, p: &Point) -> bool
-    requires plane { All (λ f. length f.normal ≡ 2) facets.now }
+    requires same { length v.now ≡ length p.now }
+    requires dimension { All (λ f. length f.normal ≡ length v.now) facets.now }
     requires constants { All (λ f. nat_abs f.constant ≤ 2 ^ 100) facets.now }
-    requires plane_v { length v.now ≡ 2 }
-    requires plane_p { length p.now ≡ 2 }
     requires small_v { weight v.now ≤ 2 ^ 30 }
     requires small_p { weight p.now ≤ 2 ^ 30 }
     ensures { IsTrue result ↔ LiesWith facets.now v.now p.now }
@@ -28,11 +30,10 @@ fn lies_with(facets: &[Functional], v: &Point, p: &Point) -> bool
 
 /// Whether no other point lies on every facet on which v lies.
 fn is_vertex(points: &[Point], facets: &[Functional], v: &Point) -> bool
-    requires plane { HaveDimension 2 points.now }
+    requires dimension { HaveDimension (length v.now) points.now }
     requires small { All (λ p. weight p ≤ 2 ^ 30) points.now }
-    requires plane_facets { All (λ f. length f.normal ≡ 2) facets.now }
+    requires same { All (λ f. length f.normal ≡ length v.now) facets.now }
     requires constants { All (λ f. nat_abs f.constant ≤ 2 ^ 100) facets.now }
-    requires plane_v { length v.now ≡ 2 }
     requires small_v { weight v.now ≤ 2 ^ 30 }
     ensures { IsTrue result ↔ LiesAlone points.now facets.now v.now }
 {
@@ -41,20 +42,17 @@ fn is_vertex(points: &[Point], facets: &[Functional], v: &Point) -> bool
         .all(|p| p.is_same(v) || !lies_with(facets, v, p))
 }
 
-/// All vertices of points of the plane that aren't flat, each once, in lexicographic order. `facets` are the points' facets. At most
-/// 64 points, within the size limit; points may repeat. Nothing is refused but for memory. Source: math/0204356, section 2.
-pub fn vertices_of(
+/// All vertices of points that aren't flat, each once, in lexicographic order.
+fn all_vertices(
     alloc: Global,
     points: &[Point],
     facets: &[Functional],
-) -> Result<Vec<Point>, Fault>
-    requires plane { HaveDimension 2 points.now }
-    requires few { length points.now ≤ 64 }
-    requires within { size 2 points.now ≤ size_limit_of 2 }
-    requires solid { IsFlat 2 points.now → ⊥ }
-    requires facets { AreFacets 2 points.now facets.now }
-    ensures vertices { IfOk result (λ vs. AreVertices 2 points.now vs.items) }
-    ensures refused { IfErr result IsMemoryFault }
+) -> Result<Vec<Point>, NoMemory>
+    requires one_dimension { HaveDimension (dimension_of points.now) points.now }
+    requires within { IsSized (dimension_of points.now) points.now }
+    requires solid { IsFlat (dimension_of points.now) points.now → ⊥ }
+    requires facets { AreFacets (dimension_of points.now) points.now facets.now }
+    ensures { IfOk result (λ vs. AreVertices (dimension_of points.now) points.now vs.items) }
 {
     let mut vertices = Vec::new(alloc);
     for v in points {
@@ -63,5 +61,27 @@ pub fn vertices_of(
         }
     }
     ascending_points(&mut vertices);
+    Ok(vertices)
+}
+
+/// All vertices of points that aren't flat, each once, in lexicographic order. `facets` are the points' facets, and the points are within the
+/// size limit; points may repeat. More than 128 vertices are refused with their number. Source: math/0204356, section 2.
+pub fn vertices_of(
+    alloc: Global,
+    points: &[Point],
+    facets: &[Functional],
+) -> Result<Vec<Point>, Fault>
+    requires one_dimension { HaveDimension (dimension_of points.now) points.now }
+    requires within { IsSized (dimension_of points.now) points.now }
+    requires solid { IsFlat (dimension_of points.now) points.now → ⊥ }
+    requires facets { AreFacets (dimension_of points.now) points.now facets.now }
+    ensures vertices { IfOk result (λ vs. AreVertices (dimension_of points.now) points.now vs.items) }
+    ensures few { IfOk result (λ vs. length vs.items ≤ vertex_limit) }
+    ensures refused { IfErr result (IsVerticesFault (dimension_of points.now) points.now) }
+{
+    let vertices = all_vertices(alloc, points, facets)?;
+    if vertices.len() > VERTEX_LIMIT {
+        return Err(Fault::Refused(Refusal::Limit(LimitName::Vertices, vertices.len() as u128)));
+    }
     Ok(vertices)
 }

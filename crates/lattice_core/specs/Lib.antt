@@ -1,3 +1,4 @@
 pub mod Compare
 pub mod Limits
 pub mod Divisors
+pub mod Dimensions

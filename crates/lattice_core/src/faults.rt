@@ -24,6 +24,16 @@ impl<T: Drop> From<AllocFailed<T>> for NoMemory {
 /// Which limit an item exceeds.
 #[derive(Clone, Copy, Debug, PartialEq, Eq)]
 pub enum LimitName {
+    /// The dimension.
+    Dim,
+    /// The larger number of a matrix's header.
+    Input,
+    /// The size of the points.
+    Size,
+    /// The number of facets.
+    Facets,
+    /// The number of vertices.
+    Vertices,
     /// The number of lattice points.
     Points,
 }

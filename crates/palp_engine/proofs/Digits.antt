@@ -34,7 +34,7 @@ digits_split (c ∷ ds) (d ∷ es) r s p q e f h =
 own : IsNumeralModel (AllDigits 10) (digits_value 10)
 own = numerals_by_value (AllDigits 10) tells_digits
 
-pub decimal_digits : (n : ℕ) → n < 10000 → AllDigits 10 (decimal n)
+pub decimal_digits : (n : ℕ) → n < 1000000000 → AllDigits 10 (decimal n)
 decimal_digits n h = (decimal_is_IsNumeral n (omega arith)).0.1
 
 -- what stands in front of a text: its first count bytes are digits, and no digit follows
@@ -44,28 +44,28 @@ pub record IsFront (text : List ℕ) (count : ℕ) : Type 0 where
   pub ends : EndsNumber (drop count text)
 
 -- where a text begins with a number that no digit follows, its digits are the number's
-pub front_is_decimal : (text : List ℕ) (count n : ℕ) (rest : List ℕ) → IsFront text count → n < 10000 → EndsNumber rest → text ≡ decimal n ++ rest
+pub front_is_decimal : (text : List ℕ) (count n : ℕ) (rest : List ℕ) → IsFront text count → n < 1000000000 → EndsNumber rest → text ≡ decimal n ++ rest
     → (take count text ≡ decimal n) × (drop count text ≡ rest)
 front_is_decimal text count n rest f small e same =
     digits_split (take count text) (decimal n) (drop count text) rest f.digits (decimal_digits n small) f.ends e (take-append-drop count text ∙ same)
 
--- a number below 10,000 has one to four digits, and the first isn't 0 but in `0`
-decimal_is_canonical : (n : ℕ) → n < 10000 → IsCanonical (decimal n)
+-- a number below 1,000,000,000 has one to nine digits, and the first isn't 0 but in `0`
+decimal_is_canonical : (n : ℕ) → n < 1000000000 → IsCanonical (decimal n)
 decimal_is_canonical zero h = rw (decimal_digit 0 (omega arith)) (record { some = omega arith; few = omega arith; first = λ e. refl })
 decimal_is_canonical (suc n) h =
     let first = first_decimal (suc n) (omega arith) (omega arith) in
-    record { some = decimal_nonempty (suc n) (omega arith); few = length-decimal-le 4 (suc n) (omega arith) h (omega arith); first = λ e. absurd (omega (arith, first, e)) }
+    record { some = decimal_nonempty (suc n) (omega arith); few = length-decimal-le 9 (suc n) (omega arith) h (omega arith); first = λ e. absurd (omega (arith, first, e)) }
 
 -- the digits of a number that stands in front are canonical
-pub front_is_canonical : (text : List ℕ) (count n : ℕ) (rest : List ℕ) → IsFront text count → n < 10000 → EndsNumber rest → text ≡ decimal n ++ rest → IsCanonical (take count text)
+pub front_is_canonical : (text : List ℕ) (count n : ℕ) (rest : List ℕ) → IsFront text count → n < 1000000000 → EndsNumber rest → text ≡ decimal n ++ rest → IsCanonical (take count text)
 front_is_canonical text count n rest f small e same =
     let t = front_is_decimal text count n rest f small e same in
     rw t.0 (decimal_is_canonical n small)
 
 -- canonical digits spell their value
-pub value_spells : (ds : List ℕ) → AllDigits 10 ds → IsCanonical ds → (decimal (digits_value 10 ds) ≡ ds) × (digits_value 10 ds < 10000)
+pub value_spells : (ds : List ℕ) → AllDigits 10 ds → IsCanonical ds → (decimal (digits_value 10 ds) ≡ ds) × (digits_value 10 ds < 1000000000)
 value_spells ds d canonical =
-    let small : digits_value 10 ds < 10000 = digits_value_short own ds 4 d canonical.few in
+    let small : digits_value 10 ds < 1000000000 = digits_value_short own ds 9 d canonical.few in
     (decimal-digits_value own ds d canonical.some canonical.first (omega arith), small)
 
 AllDigits-take : (ds : List ℕ) (i : ℕ) → AllDigits 10 ds → AllDigits 10 (take i ds)
@@ -92,7 +92,7 @@ number_step ds i d short here =
     }
 
 -- the number that stands in front is the only one
-pub decimal_alone : (m n : ℕ) (r s : List ℕ) → m < 10000 → n < 10000 → EndsNumber r → EndsNumber s → decimal m ++ r ≡ decimal n ++ s → (m ≡ n) × (r ≡ s)
+pub decimal_alone : (m n : ℕ) (r s : List ℕ) → m < 1000000000 → n < 1000000000 → EndsNumber r → EndsNumber s → decimal m ++ r ≡ decimal n ++ s → (m ≡ n) × (r ≡ s)
 decimal_alone m n r s p q e f same =
     let t = digits_split (decimal m) (decimal n) r s (decimal_digits m p) (decimal_digits n q) e f same in
     (decimal_injective m n (omega arith) (omega arith) t.0, t.1)
@@ -105,15 +105,15 @@ minus_is_no_digit (c ∷ ds) rest r d some e =
     let range = digit_from_value c d.0 in
     omega (arith, range.0, first)
 
-pub minus_starts_no_decimal : (n : ℕ) (rest r : List ℕ) → n < 10000 → 45 ∷ rest ≡ decimal n ++ r → ⊥
+pub minus_starts_no_decimal : (n : ℕ) (rest r : List ℕ) → n < 1000000000 → 45 ∷ rest ≡ decimal n ++ r → ⊥
 minus_starts_no_decimal n rest r h e = minus_is_no_digit (decimal n) rest r (decimal_digits n h) (decimal_nonempty n (omega arith)) e
 
 -- a signed number behind `-` is negative, and its size follows
-pub after_minus : (digits : List ℕ) (z : ℤ) (rest : List ℕ) → nat_abs z < 10000 → 45 ∷ digits ≡ signed_decimal z ++ rest → (m : ℕ) × (suc m < 10000) × (digits ≡ decimal (suc m) ++ rest)
+pub after_minus : (digits : List ℕ) (z : ℤ) (rest : List ℕ) → nat_abs z < 1000000000 → 45 ∷ digits ≡ signed_decimal z ++ rest → (m : ℕ) × (suc m < 1000000000) × (digits ≡ decimal (suc m) ++ rest)
 after_minus digits (pos n) rest h e = absurd (minus_starts_no_decimal n digits rest h e)
 after_minus digits (negsuc m) rest h e = (m, h, cc)
 
 -- a signed number that doesn't begin with `-` isn't negative
-pub without_minus : (text : List ℕ) (z : ℤ) (rest : List ℕ) → ((r : List ℕ) → text ≡ 45 ∷ r → ⊥) → nat_abs z < 10000 → text ≡ signed_decimal z ++ rest → (n : ℕ) × (n < 10000) × (text ≡ decimal n ++ rest)
+pub without_minus : (text : List ℕ) (z : ℤ) (rest : List ℕ) → ((r : List ℕ) → text ≡ 45 ∷ r → ⊥) → nat_abs z < 1000000000 → text ≡ signed_decimal z ++ rest → (n : ℕ) × (n < 1000000000) × (text ≡ decimal n ++ rest)
 without_minus text (pos n) rest no_minus h e = (n, h, e)
 without_minus text (negsuc m) rest no_minus h e = absurd (no_minus (decimal (suc m) ++ rest) e)

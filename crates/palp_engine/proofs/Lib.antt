@@ -1,10 +1,9 @@
 mod Digits
 mod FrontsAreSingle
 mod Buffers
-mod Boxes
-mod Spans
-mod Sublists
-mod LatticePoints
-mod PointSizes
 mod Readings
+mod VertexLists
+mod CountedPoints
+mod MatrixPoints
+mod RunMeanings
 mod SingleAnswers

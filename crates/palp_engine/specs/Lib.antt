@@ -4,7 +4,6 @@ pub mod Fronts
 pub mod Reports
 pub mod Statuses
 pub mod Notes
-pub mod Scans
 pub mod Answers
 pub mod Intakes
 pub mod Runs

@@ -6,13 +6,18 @@ use Rattle.lattice_theory.specs.Affine.{Affine}
 use Rattle.lattice_core.specs.declared.faults.Refusal.{Refusal}
 use Rattle.lattice_core.specs.declared.faults.Refusal.TheVariants.{Flat, Limit}
 use Rattle.lattice_core.specs.declared.faults.LimitName.{LimitName}
-use Rattle.lattice_core.specs.declared.faults.LimitName.TheVariants.{Points}
+use Rattle.lattice_core.specs.declared.faults.LimitName.TheVariants.{Dim, Input, Size, Facets, Vertices, Points}
 use Rattle.palp_io.specs.Sink.{Gains, IsGiveFault}
 use Rattle.palp_engine.specs.declared.outcome.Outcome.{Outcome}
 use Rattle.palp_engine.specs.declared.outcome.Outcome.TheVariants.{Done, Refused, NotBuilt, ReadFault, WriteFault, NoMemory}
 
 -- the name of a limit
 abbrev pub limit_name : LimitName → List ℕ
+limit_name Dim = codes "Dim"
+limit_name Input = codes "Input"
+limit_name Size = codes "Size"
+limit_name Facets = codes "Facets"
+limit_name Vertices = codes "Vertices"
 limit_name Points = codes "Points"
 
 -- the normal's entries, each with a space behind it, and then the constant

@@ -1,45 +1,113 @@
--- What `poly -n` says of points of the plane. The line's form and the limit are this project's own; PALP prints such a line for
--- polytopes that aren't reflexive (arXiv:1205.4147, section 3).
+-- What `poly -n` says of points. The line's form and the limits are this project's own; PALP prints such a line for polytopes that
+-- aren't reflexive (arXiv:1205.4147, section 3).
 use Rattle.std.specs.Prelude.{◌≡◌, ℕ, ◌+◌, ◌<◌, ◌≤◌, List, ◌++◌, length, ℤ, codes}
 use Rattle.std.specs.Fmt.{decimal}
 use Rattle.lattice_theory.specs.Affine.{Affine}
+use Rattle.lattice_theory.specs.Size.{size}
 use Rattle.lattice_theory.specs.Hull.{AreVertices}
 use Rattle.lattice_theory.specs.Facet.{IsFlat, IsFlatFunction, AreFacets}
 use Rattle.lattice_theory.specs.Points.{AreLatticePoints}
+use Rattle.lattice_core.specs.Limits.{size_limit_of}
 use Rattle.lattice_core.specs.declared.faults.Refusal.{Refusal}
 use Rattle.lattice_core.specs.declared.faults.Refusal.TheVariants.{Flat, Limit}
-use Rattle.lattice_core.specs.declared.faults.LimitName.TheVariants.{Points}
+use Rattle.lattice_core.specs.declared.faults.LimitName.{LimitName}
+use Rattle.lattice_core.specs.declared.faults.LimitName.TheVariants.{Dim, Input, Size, Facets, Vertices, Points}
 
 -- the line that tells the numbers of lattice points, vertices and facets
 abbrev pub body_line : ℕ → ℕ → ℕ → List ℕ
 body_line points vertices facets =
     codes "M:" ++ (decimal points ++ (codes " " ++ (decimal vertices ++ (codes " F:" ++ (decimal facets ++ codes "\n")))))
 
--- the most lattice points of an item that isn't refused
+-- the limits of an item that isn't refused: its dimension, and its numbers of facets, of vertices and of lattice points
+abbrev pub most_coordinates : ℕ
+most_coordinates = 6
+
+abbrev pub most_facets : ℕ
+most_facets = 128
+
+abbrev pub most_vertices : ℕ
+most_vertices = 128
+
 abbrev pub most_points : ℕ
 most_points = 16384
 
--- the line says how many lattice points, vertices and facets the points' hull has, and the points aren't refused
-pub record IsBodyLine (points : List (List ℤ)) (line : List ℕ) : Type 0 where
-  pub solid : IsFlat 2 points → ⊥
-  pub lattice : List (List ℤ)
-  pub are_lattice_points : AreLatticePoints 2 points lattice
-  pub few : length lattice ≤ most_points
-  pub vertices : List (List ℤ)
-  pub are_vertices : AreVertices 2 points vertices
-  pub facets : List Affine
-  pub are_facets : AreFacets 2 points facets
-  pub written : line ≡ body_line (length lattice) (length vertices) (length facets)
+-- the points have few coordinates and are within the size limit
+pub record AreSized (n : ℕ) (points : List (List ℤ)) : Type 0 where
+  pub dimension : n ≤ most_coordinates
+  pub small : size n points ≤ size_limit_of n
 
--- the hull of points that aren't flat has more lattice points than an item may have, and the number told is one more than that
-pub record HasManyPoints (points : List (List ℤ)) (told : ℕ) : Type 0 where
-  pub solid : IsFlat 2 points → ⊥
+-- and they aren't flat
+pub record AreFull (n : ℕ) (points : List (List ℤ)) : Type 0 where
+  pub sized : AreSized n points
+  pub solid : IsFlat n points → ⊥
+
+-- and they have few facets
+pub record HaveFewFacets (n : ℕ) (points : List (List ℤ)) : Type 0 where
+  pub full : AreFull n points
+  pub facets : List Affine
+  pub are_facets : AreFacets n points facets
+  pub few : length facets ≤ most_facets
+
+-- and they have few vertices
+pub record HaveFewVertices (n : ℕ) (points : List (List ℤ)) : Type 0 where
+  pub faces : HaveFewFacets n points
+  pub vertices : List (List ℤ)
+  pub are_vertices : AreVertices n points vertices
+  pub few : length vertices ≤ most_vertices
+
+-- the line says how many lattice points, vertices and facets the points' hull has, and the points aren't refused
+pub record IsBodyLine (n : ℕ) (points : List (List ℤ)) (line : List ℕ) : Type 0 where
+  pub polytope : HaveFewVertices n points
   pub lattice : List (List ℤ)
-  pub are_lattice_points : AreLatticePoints 2 points lattice
+  pub are_lattice_points : AreLatticePoints n points lattice
+  pub few : length lattice ≤ most_points
+  pub written : line ≡ body_line (length lattice) (length polytope.vertices) (length polytope.faces.facets)
+
+-- points have too many coordinates: their number is told
+abbrev pub HaveManyCoordinates : ℕ → ℕ → Type 0
+HaveManyCoordinates n told = (told ≡ n) × (most_coordinates < n)
+
+-- the points' size is above the limit, and it is told
+pub record AreLarge (n : ℕ) (points : List (List ℤ)) (told : ℕ) : Type 0 where
+  pub dimension : n ≤ most_coordinates
+  pub large : size_limit_of n < size n points
+  pub told_is : told ≡ size n points
+
+-- the points have too many facets, and their number is told
+pub record HaveManyFacets (n : ℕ) (points : List (List ℤ)) (told : ℕ) : Type 0 where
+  pub full : AreFull n points
+  pub facets : List Affine
+  pub are_facets : AreFacets n points facets
+  pub many : most_facets < length facets
+  pub told_is : told ≡ length facets
+
+-- the points have too many vertices, and their number is told
+pub record HaveManyVertices (n : ℕ) (points : List (List ℤ)) (told : ℕ) : Type 0 where
+  pub faces : HaveFewFacets n points
+  pub vertices : List (List ℤ)
+  pub are_vertices : AreVertices n points vertices
+  pub many : most_vertices < length vertices
+  pub told_is : told ≡ length vertices
+
+-- the hull has too many lattice points, and the number told is one more than the limit
+pub record HaveManyPoints (n : ℕ) (points : List (List ℤ)) (told : ℕ) : Type 0 where
+  pub polytope : HaveFewVertices n points
+  pub lattice : List (List ℤ)
+  pub are_lattice_points : AreLatticePoints n points lattice
   pub many : most_points < length lattice
   pub told_is : told ≡ most_points + 1
 
--- why the points are refused
-abbrev pub IsRefused : List (List ℤ) → Refusal → Type 0
-IsRefused points (Flat f) = IsFlatFunction 2 points f
-IsRefused points (Limit Points told) = HasManyPoints points told
+-- the limit is the first that the points exceed, and its number is told. A matrix that is read here has too few numbers for the limit
+-- `Input`.
+abbrev pub IsExceeded : ℕ → List (List ℤ) → LimitName → ℕ → Type 0
+IsExceeded n points Dim told = HaveManyCoordinates n told
+IsExceeded n points Input told = ⊥
+IsExceeded n points Size told = AreLarge n points told
+IsExceeded n points Facets told = HaveManyFacets n points told
+IsExceeded n points Vertices told = HaveManyVertices n points told
+IsExceeded n points Points told = HaveManyPoints n points told
+
+-- why the points are refused. The order is: the dimension, the size, flat points, the facets, the vertices, the lattice points.
+abbrev pub IsRefused : ℕ → List (List ℤ) → Refusal → Type 0
+IsRefused n points (Flat f) = AreSized n points × IsFlatFunction n points f
+IsRefused n points (Limit name told) = IsExceeded n points name told

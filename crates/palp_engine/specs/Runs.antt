@@ -1,12 +1,11 @@
 -- What a run does. This project's own.
-use Rattle.std.specs.Prelude.{◌≡◌, ◌⊎◌, ℕ, ◌+◌, ◌≤◌, Bool, true, List, [], ◌∷◌, length, ℤ, codes, Option}
+use Rattle.std.specs.Prelude.{◌≡◌, ◌⊎◌, ℕ, ◌+◌, ◌≤◌, Bool, true, List, [], ◌∷◌, length, codes, Option}
 use Rattle.lattice_core.specs.declared.faults.Refusal.{Refusal}
 use Rattle.std.specs.Io.KnownBytes.{IsAtEnd}
 use Rattle.palp_io.specs.Faults.{Rose}
 use Rattle.palp_io.specs.Source.{Passes}
 use Rattle.palp_io.specs.Sink.{Gains, GainsFront}
-use Rattle.palp_engine.specs.Texts.{IsPlaneText}
-use Rattle.palp_engine.specs.Reports.{IsBodyLine, IsRefused}
+use Rattle.palp_engine.specs.Answers.{IsLineOfText, IsRefusedText, IsNoMatrixText}
 use Rattle.palp_engine.specs.declared.outcome.Outcome.{Outcome}
 use Rattle.palp_engine.specs.declared.outcome.Outcome.TheVariants.{Done, Refused, NotBuilt, ReadFault, WriteFault, NoMemory}
 
@@ -34,7 +33,7 @@ IsPlainPoly words = words ≡ codes "poly" ∷ (codes "-n" ∷ [])
 
 -- the most bytes that a run takes: one more than a text may have
 abbrev pub most_taken : ℕ
-most_taken = 4096 + 1
+most_taken = 65536 + 1
 
 -- the source is as it was
 pub record IsUntouched (source : Intake) : Type 0 where
@@ -52,20 +51,16 @@ pub record IsReadWhole (source : Intake) : Type 0 where
 pub record IsDone (words : List (List ℕ)) (source : Intake) (out : Output) (text : List ℕ) : Type 0 where
   pub command : IsPlainPoly words
   pub whole : IsReadWhole source
-  pub points : List (List ℤ)
-  pub reads : IsPlaneText text points
   pub line : List ℕ
-  pub is_line : IsBodyLine points line
+  pub is_line : IsLineOfText text line
   pub appended : Gains out.given_before out.given_now line
 
 -- Refused: the text that was taken, to its end, is a matrix text whose points are refused for this cause. Nothing was appended.
 pub record IsRefusedRun (words : List (List ℕ)) (source : Intake) (out : Output) (text : List ℕ) (item : ℕ) (cause : Refusal) : Type 0 where
   pub command : IsPlainPoly words
   pub whole : IsReadWhole source
-  pub points : List (List ℤ)
-  pub reads : IsPlaneText text points
   pub first : item ≡ 1
-  pub refused : IsRefused points cause
+  pub refused : IsRefusedText text cause
   pub appended : Gains out.given_before out.given_now []
 
 -- NotBuilt: the words are another command, and nothing was read; or what was taken, to the source's end or to the most bytes, is no
@@ -77,7 +72,7 @@ pub record IsOtherCommand (words : List (List ℕ)) (source : Intake) : Type 0 w
 pub record IsOtherText (words : List (List ℕ)) (source : Intake) (text : List ℕ) : Type 0 where
   pub command : IsPlainPoly words
   pub whole : IsReadWhole source ⊎ (length text ≡ most_taken)
-  pub unread : (points : List (List ℤ)) → IsPlaneText text points → ⊥
+  pub unread : IsNoMatrixText text
 
 abbrev pub IsNotBuilt : List (List ℕ) → Intake → Output → List ℕ → Type 0
 IsNotBuilt words source out text =
@@ -94,10 +89,8 @@ pub record IsWriteFault (words : List (List ℕ)) (source : Intake) (out : Outpu
   pub command : IsPlainPoly words
   pub rose : Rose out.faults_before out.faults_now
   pub whole : IsReadWhole source
-  pub points : List (List ℤ)
-  pub reads : IsPlaneText text points
   pub line : List ℕ
-  pub is_line : IsBodyLine points line
+  pub is_line : IsLineOfText text line
   pub appended : GainsFront out.given_before out.given_now line
 
 -- NoMemory: nothing was appended
@@ -116,13 +109,13 @@ Means words source out text NoMemory = IsOutOfMemory words out
 
 -- what the answer to a text that was read whole means, for the sink of the report
 abbrev pub ReportMeans : List ℕ → Output → Outcome → Type 0
-ReportMeans text out Done = (points : List (List ℤ)) × IsPlaneText text points × (line : List ℕ) × IsBodyLine points line × Gains out.given_before out.given_now line
+ReportMeans text out Done = (line : List ℕ) × IsLineOfText text line × Gains out.given_before out.given_now line
 ReportMeans text out (Refused item cause) =
-    (item ≡ 1) × (points : List (List ℤ)) × IsPlaneText text points × IsRefused points cause × Gains out.given_before out.given_now []
-ReportMeans text out NotBuilt = ((points : List (List ℤ)) → IsPlaneText text points → ⊥) × Gains out.given_before out.given_now []
+    (item ≡ 1) × IsRefusedText text cause × Gains out.given_before out.given_now []
+ReportMeans text out NotBuilt = IsNoMatrixText text × Gains out.given_before out.given_now []
 ReportMeans text out ReadFault = ⊥
 ReportMeans text out WriteFault =
-    Rose out.faults_before out.faults_now × (points : List (List ℤ)) × IsPlaneText text points × (line : List ℕ) × IsBodyLine points line × GainsFront out.given_before out.given_now line
+    Rose out.faults_before out.faults_now × (line : List ℕ) × IsLineOfText text line × GainsFront out.given_before out.given_now line
 ReportMeans text out NoMemory = Gains out.given_before out.given_now []
 
 -- a run took the text from the source, at most so many bytes, and its outcome means what it says

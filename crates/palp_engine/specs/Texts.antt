@@ -1,27 +1,67 @@
--- The texts that `poly -n` reads today: one matrix of points of the plane, in the one form in which it is written here. This project's
--- own; such a text is a matrix with a header as PALP reads it (arXiv:1205.4147, section 3).
-use Rattle.std.specs.Prelude.{◌≡◌, ℕ, ◌≤◌, ◌⊎◌, List, [], ◌∷◌, ◌++◌, length, ℤ, nat_abs}
+-- The texts that `poly -n` reads today: one matrix, in the one form in which it is written here. This project's own; such a text is a
+-- matrix with a header as PALP reads it (arXiv:1205.4147, section 3).
+use Rattle.std.specs.Prelude.{◌≡◌, ℕ, suc, ◌+◌, ◌*◌, ◌%◌, ◌^◌, ◌<◌, ◌≤◌, ◌==◌, min, max, nat_le, if◌then◌else◌, ◌⊎◌, List, [], ◌∷◌, ◌++◌, length, map, ℤ, nat_abs}
 use Rattle.std.specs.Fmt.{decimal, signed_decimal}
-use Rattle.std.specs.List.{All, flat_map}
-use Rattle.lattice_theory.specs.Vector.{entry, HaveDimension}
+use Rattle.std.specs.List.{All, range_with_len}
+use Rattle.lattice_theory.specs.Vector.{entry}
 
--- a line end, and the point's two numbers with a space between them (10 is the line end, 32 the space)
-abbrev pub point_line : List ℤ → List ℕ
-point_line p = 10 ∷ (signed_decimal (entry p 0) ++ (32 ∷ signed_decimal (entry p 1)))
+-- what stands in front of the k-th number of a matrix, counted from 0: a line end where it begins a line, otherwise a space
+abbrev pub mark : ℕ → ℕ → ℕ
+mark columns k = if k % columns == 0 then 10 else 32
 
--- the header, which is the number of points, a space and the dimension 2, and then the points' lines (50 is `2`)
-abbrev pub matrix_text : List (List ℤ) → List ℕ
-matrix_text points = decimal (length points) ++ (32 ∷ (50 ∷ flat_map point_line points))
+-- the numbers from the k-th on, line by line, each behind its mark
+abbrev pub numbers_text : ℕ → ℕ → List ℤ → List ℕ
+numbers_text columns k [] = []
+numbers_text columns k (z ∷ zs) = mark columns k ∷ (signed_decimal z ++ numbers_text columns (suc k) zs)
 
--- both numbers of the point are at most 1,000 in size
-abbrev pub IsSmall : List ℤ → Type 0
-IsSmall p = (nat_abs (entry p 0) ≤ 1000) × (nat_abs (entry p 1) ≤ 1000)
+-- the header, which is the numbers of lines and of columns with a space between them, and then the numbers
+abbrev pub matrix_text : ℕ → ℕ → List ℤ → List ℕ
+matrix_text lines columns entries = decimal lines ++ (32 ∷ (decimal columns ++ numbers_text columns 0 entries))
 
--- the text is the matrix of these points, of which there are 3 to 64; the last line may have its line end or not
-pub record IsPlaneText (text : List ℕ) (points : List (List ℤ)) : Type 0 where
-  pub short : length text ≤ 4096
-  pub least : 3 ≤ length points
-  pub most : length points ≤ 64
-  pub plane : HaveDimension 2 points
-  pub small : All IsSmall points
-  pub spelled : (text ≡ matrix_text points) ⊎ (text ≡ matrix_text points ++ (10 ∷ []))
+-- a number of a matrix has at most nine digits
+abbrev pub IsShort : ℤ → Type 0
+IsShort z = nat_abs z < 10 ^ 9
+
+-- the text is the matrix with these numbers, line by line; the last line may have its line end or not
+pub record IsMatrixText (text : List ℕ) (lines columns : ℕ) (entries : List ℤ) : Type 0 where
+  pub short : length text ≤ 65536
+  pub least_lines : 1 ≤ lines
+  pub most_lines : lines ≤ 999
+  pub least_columns : 1 ≤ columns
+  pub most_columns : columns ≤ 999
+  pub full : length entries ≡ lines * columns
+  pub digits : All IsShort entries
+  pub spelled : (text ≡ matrix_text lines columns entries) ⊎ (text ≡ matrix_text lines columns entries ++ (10 ∷ []))
+
+-- the number in a line and a column, both counted from 0
+abbrev pub number_at : ℕ → List ℤ → ℕ → ℕ → ℤ
+number_at columns entries line column = entry entries (line * columns + column)
+
+-- a coordinate of a point of a matrix, both counted from 0. The points are the lines where there are at least as many lines as columns,
+-- otherwise the columns.
+abbrev pub coordinate_of : ℕ → ℕ → List ℤ → ℕ → ℕ → ℤ
+coordinate_of lines columns entries point place =
+    if nat_le columns lines then number_at columns entries point place else number_at columns entries place point
+
+-- how many coordinates each point of a matrix has, and how many points there are
+abbrev pub coordinate_count : ℕ → ℕ → ℕ
+coordinate_count lines columns = min lines columns
+
+abbrev pub point_count : ℕ → ℕ → ℕ
+point_count lines columns = max lines columns
+
+-- a point of a matrix, counted from 0
+abbrev pub point_at : ℕ → ℕ → List ℤ → ℕ → List ℤ
+point_at lines columns entries point = map (coordinate_of lines columns entries point) (range_with_len 0 (coordinate_count lines columns))
+
+-- the points of a matrix
+abbrev pub points_of : ℕ → ℕ → List ℤ → List (List ℤ)
+points_of lines columns entries = map (point_at lines columns entries) (range_with_len 0 (point_count lines columns))
+
+-- a matrix with so many lines and columns has its numbers
+pub record IsFull (lines columns : ℕ) (entries : List ℤ) : Type 0 where
+  pub least_lines : 1 ≤ lines
+  pub most_lines : lines ≤ 999
+  pub least_columns : 1 ≤ columns
+  pub most_columns : columns ≤ 999
+  pub full : length entries ≡ lines * columns

@@ -30,7 +30,7 @@ fn is_plain_poly(words: &[String]) -> bool
 
 /// Answers to a text that was read whole.
 fn report<O: Sink>(alloc: Global, text: &[u8], out: &mut O) -> Outcome
-    requires { length text.now ≤ 4096 }
+    requires { length text.now ≤ 65536 }
     ensures { ReportMeans text.now (record {
       given_before = O.given out.old;
       faults_before = O.faults out.old;
@@ -83,10 +83,12 @@ fn perform<S: Source, O: Sink>(alloc: Global, words: &[String], src: &mut S, out
 
 /// Runs the command that the words say, which are those of the command line without the program's name.
 ///
-/// `poly -n` reads the source to its end: one matrix of 3 to 64 points of the plane, in its written form. It gives the line
-/// `M:points vertices F:facets` to `out` and answers `Done`; or it answers `Refused` with the flat function where the points lie on
-/// one line, and with the limit `Points` and the number 16,385 where the hull has more than 16,384 lattice points. Every other command
-/// is `NotBuilt` and reads nothing, and so is a text of another form, of which at most 4,097 bytes are taken. `ReadFault` and
+/// `poly -n` reads the source to its end: one matrix with 1 to 999 lines and columns, in its written form of at most 65,536 bytes. Its
+/// points are its lines where there are at least as many lines as columns, otherwise its columns. It gives the line
+/// `M:points vertices F:facets` to `out` and answers `Done`; or it answers `Refused` with the first cause of these that holds: the
+/// limit `Dim` (more than 6 coordinates), the limit `Size`, the flat function of flat points, and the limits `Facets` (more than 128),
+/// `Vertices` (more than 128) and `Points` (more than 16,384 lattice points, for which 16,385 is told). Every other command is
+/// `NotBuilt` and reads nothing, and so is a text of another form, of which at most 65,537 bytes are taken. `ReadFault` and
 /// `WriteFault` come only where the count of faults of the source, or of `out`, rose in this call; `NoMemory` may come at any step.
 /// For each outcome but `Done` the outcome's note line is given to `notes`, or a front of it where the count of faults of `notes`
 /// rose, which changes nothing else.

@@ -8,7 +8,7 @@ ghost use Rattle.palp_engine.specs.Intakes.{FillMeans, IsFilled};
 use palp_io::{Source, Took};
 
 /// The most bytes that a text may have.
-pub(crate) const MOST_BYTES: usize = 4096;
+pub(crate) const MOST_BYTES: usize = 65536;
 
 /// How the reading of a text ended.
 #[derive(Clone, Copy)]
@@ -24,7 +24,7 @@ pub(crate) enum Filled {
 /// Takes from the source until it ends, until it fails or until one byte more than a text may have is taken. The bytes stand at the
 /// front of the buffer.
 pub(crate) fn fill<S: Source>(src: &mut S, buffer: &mut [u8]) -> Filled
-    requires { length buffer.old ≡ 4097 }
+    requires { length buffer.old ≡ 65537 }
     ensures filled { IsFilled (S.left src.old) (S.taken src.old) (S.left src.new) (S.taken src.new) buffer.new result }
     ensures means { FillMeans result (S.left src.new) (S.ended src.new) (S.faults src.old) (S.faults src.new) }
 {

@@ -1,7 +1,7 @@
 //! The program's engine: the command words and a text go in, the report goes out, and an outcome says how it ended. It stands on
-//! `hull` for facets and vertices, on `palp_io` for bytes in and out, and on `lattice_core` for points and refusals. Its central
-//! theorem is the contract of `run`: what is written is exactly the report that the lattice definitions fix, and what isn't reported
-//! is refused by name.
+//! `hull` for facets and vertices, on `point_scan` for lattice points, on `palp_io` for bytes in and out, and on `lattice_core` for
+//! points and refusals. Its central theorem is the contract of `run`: what is written is exactly the report that the lattice
+//! definitions fix, and what isn't reported is refused by name.
 #![tactic(auto)]
 
 mod answers;
@@ -13,7 +13,7 @@ mod lines;
 mod matrix;
 mod numerals;
 mod outcome;
-mod scan;
+mod points;
 #[cfg(test)]
 mod tests;
 

@@ -4,7 +4,7 @@ ghost use Rattle.std.specs.Prelude.{◌≡◌, ℕ, ◌+◌, ◌*◌, ◌≤◌,
 ghost use Rattle.std.specs.Fmt.{decimal};
 ghost use Rattle.arrayvec.specs.ArrayVec.{array_vec_len};
 ghost use Rattle.palp_engine.specs.Reports.{body_line as body_line_of};
-ghost use Rattle.palp_engine.specs.Notes.{note_line as note_line_of, function_text, refusal_text};
+ghost use Rattle.palp_engine.specs.Notes.{note_line as note_line_of, function_text, limit_name, refusal_text};
 
 use crate::Outcome;
 use arrayvec::ArrayVec;
@@ -61,6 +61,21 @@ fn put_function(line: &mut Line, function: &Functional)
     put_number(line, function.constant());
 }
 
+/// The name of a limit: at most 8 bytes.
+fn name_of(limit: LimitName) -> &'static [u8]
+    ensures name { result.now ≡ limit_name limit }
+    ensures short { length result.now ≤ 8 }
+{
+    match limit {
+        LimitName::Dim => b"Dim",
+        LimitName::Input => b"Input",
+        LimitName::Size => b"Size",
+        LimitName::Facets => b"Facets",
+        LimitName::Vertices => b"Vertices",
+        LimitName::Points => b"Points",
+    }
+}
+
 /// Appends what the note says of a refusal.
 fn put_refusal(line: &mut Line, cause: &Refusal)
     requires { array_vec_len line.old ≤ 80 }
@@ -72,8 +87,10 @@ fn put_refusal(line: &mut Line, cause: &Refusal)
             put(line, b"flat: ");
             put_function(line, function);
         }
-        Refusal::Limit(LimitName::Points, told) => {
-            put(line, b"limit Points: ");
+        Refusal::Limit(limit, told) => {
+            put(line, b"limit ");
+            put(line, name_of(*limit));
+            put(line, b": ");
             put_number(line, *told);
         }
     }

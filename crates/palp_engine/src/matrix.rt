@@ -1,68 +1,73 @@
 //! The reader of a matrix text.
 
-ghost use Rattle.std.specs.Prelude.{◌≡◌, ◌↔◌, ℕ, ◌≤◌, IsTrue, List, ℤ, length, IfOk, IfSome, IfNone, MatchOption};
-ghost use Rattle.lattice_theory.specs.Vector.{entry};
-ghost use Rattle.palp_engine.specs.Texts.{IsPlaneText};
-ghost use Rattle.palp_engine.specs.Fronts.{IsPointFront, IsPointsFront, IsTail};
+ghost use Rattle.std.specs.Prelude.{◌≡◌, ℕ, ◌*◌, ◌<◌, ◌≤◌, List, ℤ, length, IfOk, IfSome, IfNone, MatchOption};
+ghost use Rattle.palp_engine.specs.Texts.{IsMatrixText, mark as mark_of};
+ghost use Rattle.palp_engine.specs.Fronts.{IsNumbersFront};
 
-use crate::fronts::{coordinates, header};
-use lattice_core::{NoMemory, Point};
+use crate::fronts::{header, is_tail, marked_number};
+use lattice_core::NoMemory;
 use std::alloc::Global;
 
-/// The point whose line stands at the front, and the bytes after it.
-fn point(text: &[u8]) -> Option<(Point, &[u8])>
-    ensures found { IfSome result (λ r. (length r.0 ≡ 2) × IsPointFront text.now (entry r.0 0) (entry r.0 1) r.1.now) }
-    ensures none { IfNone result ((x y : ℤ) (rest : List ℕ) → IsPointFront text.now x y rest → ⊥) }
-{
-    let (x, y, rest) = coordinates(text)?;
-    Some((Point::new(&[x, y])?, rest))
+/// The numbers of a matrix, line by line.
+#[derive(Drop)]
+pub(crate) struct Matrix {
+    pub(crate) lines: u32,
+    pub(crate) columns: u32,
+    pub(crate) entries: Vec<i64>,
 }
 
-/// The points whose lines stand at the front, so many, and the bytes after them.
-fn points(alloc: Global, text: &[u8], count: u32) -> Result<Option<(Vec<Point>, &[u8])>, NoMemory>
-    requires { 1 ≤ count }
-    ensures { IfOk result (λ read. MatchOption read
-        ((points : List (List ℤ)) (rest : List ℕ) → IsPointsFront text.now count points rest → ⊥)
-        (λ r. IsPointsFront text.now count r.0.items r.1.now)) }
+/// What stands in front of the number at a place, counted from 0.
+fn mark(columns: u32, place: u32) -> u8
+    requires { 1 ≤ columns }
+    ensures { result ≡ mark_of columns place }
 {
-    let mut points = Vec::new(alloc);
+    if place % columns == 0 { b'\n' } else { b' ' }
+}
+
+/// The numbers of a matrix that stand at the front, so many, and the bytes after them.
+fn numbers(
+    alloc: Global,
+    text: &[u8],
+    columns: u32,
+    count: u32,
+) -> Result<Option<(Vec<i64>, &[u8])>, NoMemory>
+    requires columns { 1 ≤ columns }
+    requires some { 1 ≤ count }
+    ensures { IfOk result (λ read. MatchOption read
+        ((entries : List ℤ) (rest : List ℕ) → IsNumbersFront text.now columns count entries rest → ⊥)
+        (λ r. IsNumbersFront text.now columns count r.0.items r.1.now)) }
+{
+    let mut entries = Vec::new(alloc);
     let mut rest = text;
-    for _line in 0..count {
-        let Some((next, after)) = point(rest) else {
+    for place in 0..count {
+        let Some((number, after)) = marked_number(rest, mark(columns, place)) else {
             return Ok(None);
         };
-        points.push(next)?;
+        entries.push(number)?;
         rest = after;
     }
-    Ok(Some((points, rest)))
+    Ok(Some((entries, rest)))
 }
 
-/// Whether nothing is left but the line end of the last line, which may be missing.
-fn is_tail(rest: &[u8]) -> bool
-    ensures { IsTrue result ↔ IsTail rest.now }
-{
-    match rest {
-        [] => true,
-        [byte] => *byte == b'\n',
-        _ => false,
-    }
-}
-
-/// The points of a matrix text of at most 4,096 bytes. It is `None` exactly where the text is no such text.
-pub(crate) fn matrix(alloc: Global, text: &[u8]) -> Result<Option<Vec<Point>>, NoMemory>
-    requires { length text.now ≤ 4096 }
+/// The matrix of a text of at most 65,536 bytes. It is `None` exactly where the text is no matrix text.
+pub(crate) fn read_matrix(alloc: Global, text: &[u8]) -> Result<Option<Matrix>, NoMemory>
+    requires { length text.now ≤ 65536 }
     ensures { IfOk result (λ read. MatchOption read
-        ((points : List (List ℤ)) → IsPlaneText text.now points → ⊥)
-        (λ v. IsPlaneText text.now v.items)) }
+        ((lines columns : ℕ) (entries : List ℤ) → IsMatrixText text.now lines columns entries → ⊥)
+        (λ m. IsMatrixText text.now m.lines m.columns m.entries.items)) }
 {
-    let Some((count, lines)) = header(text) else {
+    let Some((lines, columns, rest)) = header(text) else {
         return Ok(None);
     };
-    let Some((points, rest)) = points(alloc, lines, count)? else {
+    let Some((entries, rest)) = numbers(alloc, rest, columns, lines * columns)? else {
         return Ok(None);
     };
     if is_tail(rest) {
-        Ok(Some(points))
+        Ok(Some(Matrix {
+            lines,
+            columns,
+            entries,
+        }))
     } else {
         Ok(None)
     }

@@ -32,20 +32,20 @@ fn number_of(digits: &[u8]) -> u32
     number
 }
 
-/// Whether these are one to four digits of which the first isn't 0, or just `0`.
+/// Whether these are one to nine digits of which the first isn't 0, or just `0`.
 fn is_canonical(digits: &[u8]) -> bool
     ensures { IsTrue result ↔ IsCanonical digits.now }
 {
-    if digits.is_empty() || digits.len() > 4 {
+    if digits.is_empty() || digits.len() > 9 {
         return false;
     }
     digits.len() == 1 || digits[0] != b'0'
 }
 
-/// The number at the front, below 10,000 and with no digit behind it, and the bytes after it.
+/// The number at the front, below 1,000,000,000 and with no digit behind it, and the bytes after it.
 pub(crate) fn natural(text: &[u8]) -> Option<(u32, &[u8])>
-    ensures found { IfSome result (λ r. (text.now ≡ decimal r.0 ++ r.1.now) × (r.0 < 10000) × EndsNumber r.1.now) }
-    ensures none { IfNone result ((n : ℕ) (rest : List ℕ) → n < 10000 → EndsNumber rest → text.now ≡ decimal n ++ rest → ⊥) }
+    ensures found { IfSome result (λ r. (text.now ≡ decimal r.0 ++ r.1.now) × (r.0 < 1000000000) × EndsNumber r.1.now) }
+    ensures none { IfNone result ((n : ℕ) (rest : List ℕ) → n < 1000000000 → EndsNumber rest → text.now ≡ decimal n ++ rest → ⊥) }
 {
     let (digits, rest) = text.split_at(digits_at_front(text));
     if !is_canonical(digits) {
@@ -54,10 +54,10 @@ pub(crate) fn natural(text: &[u8]) -> Option<(u32, &[u8])>
     Some((number_of(digits), rest))
 }
 
-/// The signed number at the front, below 10,000 in size and with no digit behind it, and the bytes after it.
+/// The signed number at the front, below 1,000,000,000 in size and with no digit behind it, and the bytes after it.
 pub(crate) fn integer(text: &[u8]) -> Option<(i64, &[u8])>
-    ensures found { IfSome result (λ r. (text.now ≡ signed_decimal r.0 ++ r.1.now) × (nat_abs r.0 < 10000) × EndsNumber r.1.now) }
-    ensures none { IfNone result ((z : ℤ) (rest : List ℕ) → nat_abs z < 10000 → EndsNumber rest → text.now ≡ signed_decimal z ++ rest → ⊥) }
+    ensures found { IfSome result (λ r. (text.now ≡ signed_decimal r.0 ++ r.1.now) × (nat_abs r.0 < 1000000000) × EndsNumber r.1.now) }
+    ensures none { IfNone result ((z : ℤ) (rest : List ℕ) → nat_abs z < 1000000000 → EndsNumber rest → text.now ≡ signed_decimal z ++ rest → ⊥) }
 {
     match after(text, b'-') {
         Some(digits) => negative(digits),
@@ -67,8 +67,8 @@ pub(crate) fn integer(text: &[u8]) -> Option<(i64, &[u8])>
 
 /// The number at the front of what follows a `-`.
 fn negative(digits: &[u8]) -> Option<(i64, &[u8])>
-    ensures found { IfSome result (λ r. (45 ∷ digits.now ≡ signed_decimal r.0 ++ r.1.now) × (nat_abs r.0 < 10000) × EndsNumber r.1.now) }
-    ensures none { IfNone result ((z : ℤ) (rest : List ℕ) → nat_abs z < 10000 → EndsNumber rest → 45 ∷ digits.now ≡ signed_decimal z ++ rest → ⊥) }
+    ensures found { IfSome result (λ r. (45 ∷ digits.now ≡ signed_decimal r.0 ++ r.1.now) × (nat_abs r.0 < 1000000000) × EndsNumber r.1.now) }
+    ensures none { IfNone result ((z : ℤ) (rest : List ℕ) → nat_abs z < 1000000000 → EndsNumber rest → 45 ∷ digits.now ≡ signed_decimal z ++ rest → ⊥) }
 {
     match natural(digits) {
         None => None,
@@ -80,8 +80,8 @@ fn negative(digits: &[u8]) -> Option<(i64, &[u8])>
 /// The number at the front of a text that doesn't begin with `-`.
 fn positive(text: &[u8]) -> Option<(i64, &[u8])>
     requires { (rest : List ℕ) → text.now ≡ 45 ∷ rest → ⊥ }
-    ensures found { IfSome result (λ r. (text.now ≡ signed_decimal r.0 ++ r.1.now) × (nat_abs r.0 < 10000) × EndsNumber r.1.now) }
-    ensures none { IfNone result ((z : ℤ) (rest : List ℕ) → nat_abs z < 10000 → EndsNumber rest → text.now ≡ signed_decimal z ++ rest → ⊥) }
+    ensures found { IfSome result (λ r. (text.now ≡ signed_decimal r.0 ++ r.1.now) × (nat_abs r.0 < 1000000000) × EndsNumber r.1.now) }
+    ensures none { IfNone result ((z : ℤ) (rest : List ℕ) → nat_abs z < 1000000000 → EndsNumber rest → text.now ≡ signed_decimal z ++ rest → ⊥) }
 {
     match natural(text) {
         Some((number, rest)) => Some((i64::from(number), rest)),

@@ -130,23 +130,62 @@ fn not_built(words: &'static [&'static str], text: &'static str) -> Case {
     }
 }
 
+/// Two hexagons and a square in planes of their own, whose hull has 6 times 6 times 4 facets.
+const MANY_FACETS: &str = "16 6\n\
+    1 0 0 0 0 0\n\
+    1 1 0 0 0 0\n\
+    0 1 0 0 0 0\n\
+    -1 0 0 0 0 0\n\
+    -1 -1 0 0 0 0\n\
+    0 -1 0 0 0 0\n\
+    0 0 1 0 0 0\n\
+    0 0 1 1 0 0\n\
+    0 0 0 1 0 0\n\
+    0 0 -1 0 0 0\n\
+    0 0 -1 -1 0 0\n\
+    0 0 0 -1 0 0\n\
+    0 0 0 0 1 0\n\
+    0 0 0 0 -1 0\n\
+    0 0 0 0 0 1\n\
+    0 0 0 0 0 -1\n";
+
+/// The line, the hexagon and the octahedron.
+const LINE: &str = "1 3\n5 -2 1\n";
+
+const HEXAGON: &str = "6 2\n1 0\n1 1\n0 1\n-1 0\n-1 -1\n0 -1\n";
+
+const OCTAHEDRON: &str = "6 3\n1 0 0\n-1 0 0\n0 1 0\n0 -1 0\n0 0 1\n0 0 -1\n";
+
+fn are_answered(alloc: Global, cases: &[Case]) -> Result<bool, Fail> {
+    for case in cases {
+        for chunk in [1, 7] {
+            if !is_answered(alloc, case, chunk, NOTHING)? {
+                return Ok(false);
+            }
+        }
+    }
+    Ok(true)
+}
+
 #[test]
-fn polygons_are_counted(rt: HostRuntime) -> Result<(), Fail> {
+fn polytopes_are_counted(rt: HostRuntime) -> Result<(), Fail> {
     let cases = [
         done(TRIANGLE, "M:11 3 F:3\n"),
         done("3 2\n-1 -1\n3 -1\n-1 2", "M:11 3 F:3\n"),
         done("6 2\n1 1\n1 -1\n-1 1\n-1 -1\n0 0\n1 1\n", "M:9 4 F:4\n"),
         done("3 2\n0 0\n179 0\n0 179\n", "M:16290 3 F:3\n"),
+        done(LINE, "M:8 2 F:2\n"),
+        done("1 2\n-8192 8191\n", "M:16384 2 F:2\n"),
+        done(HEXAGON, "M:7 6 F:6\n"),
+        done("2 6\n1 1 0 -1 -1 0\n0 1 1 0 -1 -1\n", "M:7 6 F:6\n"),
+        done("2 4\n-1 2 -1 -1\n-1 -1 2 -1\n", "M:10 3 F:3\n"),
+        done(OCTAHEDRON, "M:7 6 F:8\n"),
         done(
-            "3 2\n-1000 -1000\n-999 -1000\n-1000 1000\n",
-            "M:2002 3 F:3\n",
+            "7 6\n0 0 0 0 0 0\n1019 0 0 0 0 0\n0 1 0 0 0 0\n0 0 1 0 0 0\n0 0 0 1 0 0\n0 0 0 0 1 0\n0 0 0 0 0 1\n",
+            "M:1025 7 F:7\n",
         ),
     ];
-    for case in cases {
-        for chunk in [1, 2, 7, 5000] {
-            assert!(rt; is_answered(rt.alloc(), &case, chunk, NOTHING)?);
-        }
-    }
+    assert!(rt; are_answered(rt.alloc(), &cases)?);
     Ok(())
 }
 
@@ -154,44 +193,54 @@ fn polygons_are_counted(rt: HostRuntime) -> Result<(), Fail> {
 fn items_are_refused_by_name(rt: HostRuntime) -> Result<(), Fail> {
     let cases = [
         refused("3 2\n0 0\n1 1\n2 2\n", "palp: item 1: flat: -1 1 0\n"),
+        refused("2 3\n0 1 2\n0 1 2\n", "palp: item 1: flat: -1 1 0\n"),
         refused("3 2\n5 -1\n5 7\n5 2\n", "palp: item 1: flat: 1 0 -5\n"),
-        refused("3 2\n3 5\n3 5\n3 5\n", "palp: item 1: flat: 1 0 -3\n"),
+        refused("2 2\n0 0\n1 1\n", "palp: item 1: flat: -1 1 0\n"),
         refused(
             "3 2\n0 0\n180 0\n0 180\n",
             "palp: item 1: limit Points: 16385\n",
         ),
+        refused("1 2\n-8192 8192\n", "palp: item 1: limit Points: 16385\n"),
+        refused(
+            "7 8\n0 0 0 0 0 0 0 0\n0 0 0 0 0 0 0 0\n0 0 0 0 0 0 0 0\n0 0 0 0 0 0 0 0\n\
+             0 0 0 0 0 0 0 0\n0 0 0 0 0 0 0 0\n0 0 0 0 0 0 0 0\n",
+            "palp: item 1: limit Dim: 7\n",
+        ),
+        refused(
+            "7 6\n0 0 0 0 0 0\n1020 0 0 0 0 0\n0 1 0 0 0 0\n0 0 1 0 0 0\n0 0 0 1 0 0\n0 0 0 0 1 0\n0 0 0 0 0 1\n",
+            "palp: item 1: limit Size: 1025\n",
+        ),
     ];
-    for case in cases {
-        for chunk in [1, 2, 7] {
-            assert!(rt; is_answered(rt.alloc(), &case, chunk, NOTHING)?);
-        }
-    }
+    assert!(rt; are_answered(rt.alloc(), &cases)?);
+    Ok(())
+}
+
+#[test]
+fn many_facets_are_refused(rt: HostRuntime) -> Result<(), Fail> {
+    let case = refused(MANY_FACETS, "palp: item 1: limit Facets: 144\n");
+    assert!(rt; is_answered(rt.alloc(), &case, 5000, NOTHING)?);
     Ok(())
 }
 
 #[test]
 fn other_forms_are_not_built(rt: HostRuntime) -> Result<(), Fail> {
     let cases = [
-        not_built(PLAIN, "2 3\n0 1 2\n0 1 2\n"),
         not_built(&["poly"], TRIANGLE),
         not_built(&["poly", "-n", "-n"], TRIANGLE),
         not_built(&[], TRIANGLE),
         not_built(PLAIN, ""),
-        not_built(PLAIN, "2 2\n0 0\n1 1\n"),
+        not_built(PLAIN, "0 2\n"),
         not_built(PLAIN, "3 2\n-1 -1\n3 -1\n"),
         not_built(PLAIN, "3 2\n-1 -1\n3 -1\n-1 2\n\n"),
         not_built(PLAIN, "3 2\n-1 -1\n3 -1\n-1 02\n"),
         not_built(PLAIN, "3 2\n-1 -1\n3 -1\n-0 2\n"),
         not_built(PLAIN, "3 2\n-1 -1\n3  -1\n-1 2\n"),
-        not_built(PLAIN, "3 2\n-1 -1\n3 -1\n-1 1001\n"),
+        not_built(PLAIN, "3 2\n-1 -1 3\n-1 -1 2\n"),
+        not_built(PLAIN, "3 2\n-1 -1\n3 -1\n-1 1000000000\n"),
         not_built(PLAIN, "3 2\r\n-1 -1\n3 -1\n-1 2\n"),
         not_built(PLAIN, "03 2\n-1 -1\n3 -1\n-1 2\n"),
     ];
-    for case in cases {
-        for chunk in [1, 7] {
-            assert!(rt; is_answered(rt.alloc(), &case, chunk, NOTHING)?);
-        }
-    }
+    assert!(rt; are_answered(rt.alloc(), &cases)?);
     Ok(())
 }
 

@@ -1,19 +1,67 @@
-use Rattle.std.proofs.Common.{◌≤◌, arith}
-use Rattle.lattice_theory.specs.Size.{size}
-use Rattle.palp_engine.proofs.PointSizes.{size_bound, constants_bound}
+use Rattle.std.specs.Prelude.{◌≡◌, length}
+use Rattle.std.proofs.Common.{arith, rules}
+use Rattle.lattice_core.specs.Dimensions.{dimension_of}
+use Rattle.facet_theory.specs.Laws.{AreSolid}
+use Rattle.palp_engine.proofs.VertexLists.{CanCount, can_count, counts_lattice}
+use Rattle.palp_engine.proofs.CountedPoints.{ArePassed, passed, many_counted, few_counted}
 use Rattle.palp_engine.proofs.answers.body_of.Goals as goal
 
-pub facets_of-requires-clause-within : goal.facets_of-requires-clause-within
-facets_of-requires-clause-within c =
-    let bound : size 2 c.args.points.now ≤ 2000 = size_bound c.args.points.now c.requires.small in
-    omega (arith, bound)
+ready : (c : goal.After-as_slice-3) → CanCount c.as_slice-2.result.now c.as_slice-3.result.now
+ready c =
+    let points = c.args.points.now in
+    let solid : AreSolid (dimension_of points) points = record { coordinates = omega (arith, c.requires.least); dimension = c.requires.one_dimension; solid = c.in_ok-facets.ensures.solid } in
+    rw (c.as_slice-2.ensures.value, c.as_slice-3.ensures.value) (can_count (dimension_of points) points c.in_ok-vertices.vertices.items c.in_ok-facets.facets.items
+    solid c.requires.some c.in_ok-facets.ensures.within c.in_ok-vertices.ensures.vertices c.in_ok-facets.ensures.facets)
 
-pub vertices_of-requires-clause-within : goal.vertices_of-requires-clause-within
-vertices_of-requires-clause-within c =
-    let bound : size 2 c.args.points.now ≤ 2000 = size_bound c.args.points.now c.requires.small in
-    omega (arith, bound)
+pub count_to-requires-clause-some : goal.count_to-requires-clause-some
+count_to-requires-clause-some c = (ready c).some
 
-pub count_points-count-requires-clause-constants : goal.count_points-count-requires-clause-constants
-count_points-count-requires-clause-constants c =
-    let bound = size_bound c.args.points.now c.requires.small in
-    rw c.as_slice-2.ensures.value (constants_bound (size 2 c.args.points.now) c.in_ok-facets.facets.items bound c.in_ok-facets.ensures.bounded)
+pub count_to-requires-clause-dimension : goal.count_to-requires-clause-dimension
+count_to-requires-clause-dimension c = (ready c).dimension
+
+pub count_to-requires-clause-within : goal.count_to-requires-clause-within
+count_to-requires-clause-within c = (ready c).within
+
+pub count_to-requires-clause-solid : goal.count_to-requires-clause-solid
+count_to-requires-clause-solid c = (ready c).solid
+
+pub count_to-requires-clause-facets : goal.count_to-requires-clause-facets
+count_to-requires-clause-facets c = (ready c).are_facets
+
+pub returns-then-count-gt-MOST_POINTS : goal.returns-then-count-gt-MOST_POINTS
+returns-then-count-gt-MOST_POINTS c =
+    let points = c.args.points.now in
+    let vertices = c.in_ok-vertices.vertices.items in
+    let solid : AreSolid (dimension_of points) points = record { coordinates = omega (arith, c.requires.least); dimension = c.requires.one_dimension; solid = c.in_ok-facets.ensures.solid } in
+    let counts = counts_lattice (dimension_of points) points vertices 16384 c.in_ok-count.count solid c.requires.some c.in_ok-vertices.ensures.vertices
+    (rw c.as_slice-2.ensures.value at c.in_ok-count.ensures.counts) in
+    let all : ArePassed (dimension_of points) points c.in_ok-facets.facets.items vertices = record {
+      dimension = c.requires.most;
+      small = c.in_ok-facets.ensures.within;
+      solid = c.in_ok-facets.ensures.solid;
+      are_facets = c.in_ok-facets.ensures.facets;
+      few_facets = c.in_ok-facets.ensures.few;
+      are_vertices = c.in_ok-vertices.ensures.vertices;
+      few_vertices = c.in_ok-vertices.ensures.few;
+    } in
+    many_counted (dimension_of points) points c.in_ok-count.count c.from.result (passed (dimension_of points) points c.in_ok-facets.facets.items vertices all) counts c.if-count-gt-MOST_POINTS.true c.from.ensures
+
+pub returns : goal.returns
+returns c =
+    let points = c.args.points.now in
+    let facets = c.in_ok-facets.facets.items in
+    let vertices = c.in_ok-vertices.vertices.items in
+    let solid : AreSolid (dimension_of points) points = record { coordinates = omega (arith, c.requires.least); dimension = c.requires.one_dimension; solid = c.in_ok-facets.ensures.solid } in
+    let counts = counts_lattice (dimension_of points) points vertices 16384 c.in_ok-count.count solid c.requires.some c.in_ok-vertices.ensures.vertices
+    (rw c.as_slice-2.ensures.value at c.in_ok-count.ensures.counts) in
+    let vertex_count : c.len.result ≡ length vertices = search rules in
+    let facet_count : c.len-2.result ≡ length facets = search rules in
+    few_counted (dimension_of points) points facets vertices c.in_ok-count.count c.body_line.result.items (record {
+      dimension = c.requires.most;
+      small = c.in_ok-facets.ensures.within;
+      solid = c.in_ok-facets.ensures.solid;
+      are_facets = c.in_ok-facets.ensures.facets;
+      few_facets = c.in_ok-facets.ensures.few;
+      are_vertices = c.in_ok-vertices.ensures.vertices;
+      few_vertices = c.in_ok-vertices.ensures.few;
+    }) counts (omega (arith, c.if-count-gt-MOST_POINTS.false)) (rw (← vertex_count, ← facet_count) c.body_line.ensures)

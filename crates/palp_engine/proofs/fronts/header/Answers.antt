@@ -1,26 +1,30 @@
-use Rattle.std.proofs.Common.{arith}
-use Rattle.palp_engine.proofs.FrontsAreSingle.{no_header_without_space, no_header_without_dimension, header_is}
+use Rattle.std.proofs.Common.{◌≡◌, true, false, arith}
+use Rattle.palp_engine.proofs.FrontsAreSingle.{header_rest, header_second, header_whole}
 use Rattle.palp_engine.proofs.fronts.header.Goals as goal
-use Rattle.palp_engine.proofs.fronts.header.Goals.{in_default-via-then-count-lt3, in_default-via-else-count-lt3+else-count-lt65}
 
-pub returns-in_err-dimension-clause-none : goal.returns-in_err-dimension-clause-none
-returns-in_err-dimension-clause-none c =
-    let f = c.in_ok-count.ensures.found in
-    rw c.from_residual-in_err-dimension.ensures (no_header_without_space c.args.text.now c.in_ok-count.count c.in_ok-count.rest.now f.1 f.2 f.0 c.in_err-dimension.ensures.none)
+pub returns-in_err-second-clause-none : goal.returns-in_err-second-clause-none
+returns-in_err-second-clause-none c =
+    let f = c.in_ok-lines.ensures.found in
+    rw c.from_residual-in_err-second.ensures (λ lines columns rest h.
+    c.in_err-second.ensures.none _ (header_rest c.args.text.now c.in_ok-lines.lines c.in_ok-lines.rest.now f.1 f.2 f.0 lines columns rest h).1)
 
-pub returns-in_err-rest-clause-none : goal.returns-in_err-rest-clause-none
-returns-in_err-rest-clause-none c =
-    let f = c.in_ok-count.ensures.found in
-    rw c.from_residual-in_err-rest.ensures (no_header_without_dimension c.args.text.now c.in_ok-count.count c.in_ok-count.rest.now f.1 f.2 f.0
-    c.in_ok-dimension.dimension.now c.in_ok-dimension.ensures.found c.in_err-rest.ensures.none)
+pub returns-in_err-columns-clause-none : goal.returns-in_err-columns-clause-none
+returns-in_err-columns-clause-none c =
+    let f = c.in_ok-lines.ensures.found in
+    rw c.from_residual-in_err-columns.ensures (λ lines columns rest h.
+    let most = h.most_columns in
+    c.in_err-columns.ensures.none columns rest (omega arith) h.ends
+    (header_second c.args.text.now c.in_ok-lines.lines c.in_ok-lines.rest.now c.in_ok-second.second.now f.1 f.2 f.0 c.in_ok-second.ensures.found lines columns rest h).1)
 
-pub returns-in_default-clause-none : goal.returns-in_default-clause-none
-returns-in_default-clause-none c = λ count rest h.
-    let f = c.in_ok-count.ensures.found in
-    let t = header_is c.args.text.now c.in_ok-count.count c.in_ok-count.rest.now f.1 f.2 f.0 c.in_ok-dimension.dimension.now c.in_ok-rest.rest.now c.in_ok-dimension.ensures.found c.in_ok-rest.ensures.found count rest h in
-    let least = h.least in
-    let most = h.most in
-    elim c.in_default.branch [
-      | in_default-via-then-count-lt3 w ↦ omega (arith, t.0)
-      | in_default-via-else-count-lt3+else-count-lt65 w ↦ omega (arith, t.0)
-    ]
+pub returns-else-are_counts-clause-none : goal.returns-else-are_counts-clause-none
+returns-else-are_counts-clause-none c = λ lines columns rest h.
+    let f = c.in_ok-lines.ensures.found in
+    let g = c.in_ok-columns.ensures.found in
+    let t = header_whole c.args.text.now c.in_ok-lines.lines c.in_ok-columns.columns c.in_ok-lines.rest.now c.in_ok-second.second.now c.in_ok-columns.rest.now
+    f.1 f.2 f.0 c.in_ok-second.ensures.found g.1 g.2 g.0 lines columns rest h in
+    let a = h.least_lines in
+    let b = h.most_lines in
+    let d = h.least_columns in
+    let e = h.most_columns in
+    let wrong : false ≡ true = c.if-are_counts.ensures.1 (omega (arith, t.0), omega (arith, t.0), omega (arith, t.1), omega (arith, t.1)) in
+    cc

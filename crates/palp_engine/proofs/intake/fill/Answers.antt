@@ -15,5 +15,5 @@ loop-filled-preserved g c =
 pub returns-clause-filled : goal.returns-clause-filled
 returns-clause-filled g c =
     let i = c.loop-filled.invariant in
-    let full : c.loop-filled.filled ≡ 4097 = omega (arith, i.0) in
-    record { count = 4097; count_is = refl; passes = rw full at i.2 }
+    let full : c.loop-filled.filled ≡ 65537 = omega (arith, i.0) in
+    record { count = 65537; count_is = refl; passes = rw full at i.2 }

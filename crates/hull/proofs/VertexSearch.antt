@@ -1,0 +1,144 @@
+-- When a point is a vertex, and what the loop over the points keeps.
+use Rattle.std.proofs.Common.{◌≡◌, ◌↔◌, ℕ, zero, suc, ◌+◌, ◌*◌, ◌^◌, ◌<◌, ◌≤◌, List, [], ◌∷◌, ◌++◌, length, get_or, take, ℤ, pos, negsuc, ◌+ℤ◌, ◌≤ℤ◌, ◌⊎◌, inl, inr, ⊎_elim, refl, sym, ap, subst, ◌∙◌, arith, All, Contains}
+use Rattle.std.specs.Prelude.{nat_abs, ◌-◌}
+use Rattle.std.proofs.Math.Nat.{mul-le-mul_right}
+use Rattle.std.proofs.lemmas.List.Elements.{All-contains, All-weaker, All-contains_itself, Contains-append_left, Contains-push, Contains-push_cases}
+use Rattle.lattice_theory.specs.Vector.{HaveDimension, others}
+use Rattle.lattice_theory.specs.Affine.{Affine, value, IsNonnegative}
+use Rattle.lattice_theory.specs.Size.{size}
+use Rattle.lattice_theory.specs.Hull.{InHull, IsVertex, AreVertices}
+use Rattle.lattice_theory.specs.Order.{Ascends, LexLess}
+use Rattle.lattice_theory.specs.Facet.{IsFlat, AreFacets}
+use Rattle.lattice_theory.proofs.Integers.{linear}
+use Rattle.elimination.proofs.Members.{Each, empty, more, each_from_all, all_from_each}
+use Rattle.facet_theory.specs.Laws.{AreSolid}
+use Rattle.facet_theory.proofs.Vertices.{vertices_by_facets_lem}
+use Rattle.normal_bounds.proofs.Numbers.{entries_fit_lem}
+use Rattle.hull.specs.Tight.{LiesWith, LiesAlone}
+use Rattle.hull.specs.Faults.{IsSized}
+use Rattle.hull.proofs.Limits.{limit_safe, limit_bound}
+use Rattle.hull.proofs.Pivots.{take_more}
+use Rattle.hull.proofs.FacetBounds.{facets_bounded_lem, solid_at, no_facet}
+
+-- a list with one more member contains that one and what it contained
+contains_more : {X : Type 0} (xs : List X) (i : ℕ) (x y : X) → i < length xs → x ≡ get_or xs i x → Contains (take (i + 1) xs) y ↔ (Contains (take i xs) y ⊎ (x ≡ y))
+contains_more xs i x y h e = subst (λ zs. Contains zs y ↔ (Contains (take i xs) y ⊎ (x ≡ y))) (sym (take_more xs i x h e)) (there, back)
+  where
+    there : Contains (take i xs ++ (x ∷ [])) y → Contains (take i xs) y ⊎ (x ≡ y)
+    there c = Contains-push_cases (take i xs) x y c
+
+    back : Contains (take i xs) y ⊎ (x ≡ y) → Contains (take i xs ++ (x ∷ [])) y
+    back (inl c) = Contains-append_left (take i xs) (x ∷ []) y c
+    back (inr i') = subst (Contains (take i xs ++ (x ∷ []))) i' (Contains-push (take i xs) x)
+
+-- the facets' dimension
+pub facets_dimension : (n : ℕ) (points : List (List ℤ)) (facets : List Affine) → AreFacets n points facets → All (λ f. length f.normal ≡ n) facets
+facets_dimension n points facets h = All-weaker (Contains facets) (λ f. length f.normal ≡ n) (λ f c. ((h.members f).0 c).dimension) facets (All-contains_itself facets)
+
+-- two vectors without coordinates are the same
+no_coordinates : (x y : List ℤ) → length x ≡ 0 → length y ≡ 0 → x ≡ y
+no_coordinates [] [] e h = refl
+no_coordinates [] (b ∷ y) e h = absurd (omega arith)
+no_coordinates (a ∷ x) y e h = absurd (omega arith)
+
+-- so there are no others
+no_others : (points : List (List ℤ)) (v : List ℤ) → Each (λ p. length p ≡ 0) points → length v ≡ 0 → others points v ≡ []
+no_others [] v d e = refl
+no_others (p ∷ points) (a ∷ v) d e = absurd (omega arith)
+no_others ((a ∷ p) ∷ points) [] (more h d) e = absurd (omega arith)
+no_others ([] ∷ points) [] (more h d) e = no_others points [] d e
+
+-- and each is a vertex
+vertex_without : (points : List (List ℤ)) (v : List ℤ) → HaveDimension 0 points → Contains points v → IsVertex 0 points v
+vertex_without points v d c = record { member = c; outside = λ h. outside h }
+  where
+    below : pos 0 ≤ℤ (pos 0 +ℤ negsuc 0) → ⊥
+    below h = omega (arith, linear)
+
+    none : others points v ≡ []
+    none = no_others points v (each_from_all (λ p. length p ≡ 0) points d) (All-contains (λ p. length p ≡ 0) points v d c)
+
+    outside : InHull 0 (others points v) v → ⊥
+    outside h = below (h (record { normal = []; constant = negsuc 0 }) refl (subst (λ (ps : List (List ℤ)). IsNonnegative ps (record { normal = []; constant = negsuc 0 })) (sym none) (all_from_each empty)))
+
+-- a product of a small entry and a small size
+product_small : (c p m : ℕ) → c ≤ p * m → p < 2 ^ 63 → m ≤ 2 ^ 30 → c ≤ 2 ^ 100
+product_small c p m h k l = omega (arith, mul-le-mul_right {m = p} {n = 2 ^ 63} m (omega arith))
+
+-- the facets' constants are small
+pub facets_constants : (n : ℕ) (points : List (List ℤ)) (facets : List Affine) → HaveDimension n points → (IsFlat n points → ⊥) → IsSized n points → AreFacets n points facets → All (λ f. nat_abs f.constant ≤ 2 ^ 100) facets
+facets_constants zero points facets d s k h = All-weaker (Contains facets) (λ f. nat_abs f.constant ≤ 2 ^ 100) (λ f c. absurd (no_facet f points ((h.members f).0 c))) facets (All-contains_itself facets)
+facets_constants (suc k) points facets d s t h = All-weaker (Contains facets) (λ f. nat_abs f.constant ≤ 2 ^ 100) small facets (All-contains_itself facets)
+  where
+    power : (2 * size (suc k) points) ^ (suc k - 1) < 2 ^ 63
+    power = entries_fit_lem (suc k) (suc k - 1) (size (suc k) points) (omega arith) (let b = limit_safe (suc k) in omega arith)
+
+    small : (f : Affine) → Contains facets f → nat_abs f.constant ≤ 2 ^ 100
+    small f c = product_small (nat_abs f.constant) ((2 * size (suc k) points) ^ (suc k - 1)) (size (suc k) points) (facets_bounded_lem (suc k) points (solid_at k points d s) f ((h.members f).0 c)).constant power (let b = limit_bound (suc k) in omega arith)
+
+-- a point of the list is a vertex exactly where no other lies with it, by the law on vertices
+alone_by_law : (n : ℕ) (points : List (List ℤ)) (facets : List Affine) (v : List ℤ) → AreSolid n points → AreFacets n points facets → Contains points v → LiesAlone points facets v ↔ IsVertex n points v
+alone_by_law n points facets v s h c = (there, back)
+  where
+    there : LiesAlone points facets v → IsVertex n points v
+    there a = (vertices_by_facets_lem n points s v c).1 (λ p d t. All-contains (λ p. LiesWith facets v p → p ≡ v) points p a d (All-weaker (Contains facets) (λ f. value f v ≡ pos 0 → value f p ≡ pos 0) (λ f k. t f ((h.members f).0 k)) facets (All-contains_itself facets)))
+
+    back : IsVertex n points v → LiesAlone points facets v
+    back k = All-weaker (Contains points) (λ p. LiesWith facets v p → p ≡ v) alone points (All-contains_itself points)
+      where
+        alone : (p : List ℤ) → Contains points p → LiesWith facets v p → p ≡ v
+        alone p d t = (vertices_by_facets_lem n points s v c).0 k p d (λ f i z. All-contains (λ f. value f v ≡ pos 0 → value f p ≡ pos 0) facets f t ((h.members f).1 i) z)
+
+-- and also without coordinates
+pub vertex_alone : (n : ℕ) (points : List (List ℤ)) (facets : List Affine) (v : List ℤ) → HaveDimension n points → (IsFlat n points → ⊥) → AreFacets n points facets → Contains points v → LiesAlone points facets v ↔ IsVertex n points v
+vertex_alone (suc k) points facets v d s h c = alone_by_law (suc k) points facets v (solid_at k points d s) h c
+vertex_alone zero points facets v d s h c = (λ a. vertex_without points v d c, λ x. All-weaker (λ p. length p ≡ 0) (λ p. LiesWith facets v p → p ≡ v) (λ p e t. no_coordinates p v e (All-contains (λ p. length p ≡ 0) points v d c)) points d)
+
+-- vs has the vertices among some of the points
+abbrev pub HasVertices : ℕ → List (List ℤ) → List (List ℤ) → List (List ℤ) → Type 0
+HasVertices n points some vs = (v : List ℤ) → Contains vs v ↔ (Contains some v × IsVertex n points v)
+
+-- one more point that isn't a vertex
+has_same : (n : ℕ) (points vs : List (List ℤ)) (i : ℕ) (p : List ℤ) → i < length points → p ≡ get_or points i p → (IsVertex n points p → ⊥) → HasVertices n points (take i points) vs → HasVertices n points (take (i + 1) points) vs
+has_same n points vs i p h e other k v = (there, back)
+  where
+    there : Contains vs v → Contains (take (i + 1) points) v × IsVertex n points v
+    there c = let o = (k v).0 c in ((contains_more points i p v h e).1 (inl o.0), o.1)
+
+    back : Contains (take (i + 1) points) v × IsVertex n points v → Contains vs v
+    back (c, x) = ⊎_elim (λ (o : Contains (take i points) v). (k v).1 (o, x)) (λ (j : p ≡ v). absurd (other (subst (IsVertex n points) (sym j) x))) ((contains_more points i p v h e).0 c)
+
+-- one more vertex
+has_more : (n : ℕ) (points vs : List (List ℤ)) (i : ℕ) (p : List ℤ) → i < length points → p ≡ get_or points i p → IsVertex n points p → HasVertices n points (take i points) vs → HasVertices n points (take (i + 1) points) (vs ++ (p ∷ []))
+has_more n points vs i p h e y k v = (there, back)
+  where
+    there : Contains (vs ++ (p ∷ [])) v → Contains (take (i + 1) points) v × IsVertex n points v
+    there c = ⊎_elim
+        (λ (o : Contains vs v). let m = (k v).0 o in ((contains_more points i p v h e).1 (inl m.0), m.1))
+        (λ (j : p ≡ v). ((contains_more points i p v h e).1 (inr j), subst (IsVertex n points) j y))
+        (Contains-push_cases vs p v c)
+
+    back : Contains (take (i + 1) points) v × IsVertex n points v → Contains (vs ++ (p ∷ [])) v
+    back (c, x) = ⊎_elim
+        (λ (o : Contains (take i points) v). Contains-append_left vs (p ∷ []) v ((k v).1 (o, x)))
+        (λ (j : p ≡ v). subst (Contains (vs ++ (p ∷ []))) j (Contains-push vs p))
+        ((contains_more points i p v h e).0 c)
+
+-- the vertices, in order
+pub vertices_listed : (n : ℕ) (points found vs : List (List ℤ)) → HasVertices n points points found → Ascends LexLess vs → ((v : List ℤ) → Contains vs v ↔ Contains found v) → AreVertices n points vs
+vertices_listed n points found vs k ascends same = record {
+  ascends = ascends;
+  members = λ v. (λ c. ((k v).0 ((same v).0 c)).1, λ x. (same v).1 ((k v).1 (x.member, x)));
+}
+
+-- they have the points' dimension
+pub vertices_dimension : (n : ℕ) (points found : List (List ℤ)) → HaveDimension n points → HasVertices n points points found → HaveDimension n found
+vertices_dimension n points found d k = All-weaker (Contains found) (λ p. length p ≡ n) (λ v c. All-contains (λ p. length p ≡ n) points v d ((k v).0 c).0) found (All-contains_itself found)
+
+-- the loop's turn at a vertex, of which a copy is added
+pub turn_added : (n : ℕ) (points vs new : List (List ℤ)) (i : ℕ) (p copy : List ℤ) → i < length points → p ≡ get_or points i p → IsVertex n points p → copy ≡ p → new ≡ vs ++ (copy ∷ []) → HasVertices n points (take i points) vs → HasVertices n points (take (i + 1) points) new
+turn_added n points vs new i p copy h e x c s k = subst (HasVertices n points (take (i + 1) points)) (sym (s ∙ ap (λ q. vs ++ (q ∷ [])) c)) (has_more n points vs i p h e x k)
+
+-- its turn at another point
+pub turn_kept : (n : ℕ) (points vs new : List (List ℤ)) (i : ℕ) (p : List ℤ) → i < length points → p ≡ get_or points i p → (IsVertex n points p → ⊥) → new ≡ vs → HasVertices n points (take i points) vs → HasVertices n points (take (i + 1) points) new
+turn_kept n points vs new i p h e x s k = subst (HasVertices n points (take (i + 1) points)) (sym s) (has_same n points vs i p h e x k)

@@ -1,0 +1,89 @@
+//! Affine functions with given normals through given points.
+
+ghost use Rattle.std.specs.Prelude.{◌≡◌, ◌↔◌, ◌^◌, ◌<◌, ◌≤◌, length, pos, negsuc, neg_ℤ, nat_abs, IsTrue};
+ghost use Rattle.std.specs.List.{All};
+ghost use Rattle.lattice_theory.specs.Vector.{dot, scaled, HaveDimension};
+ghost use Rattle.lattice_theory.specs.Affine.{value, IsNonnegative};
+ghost use Rattle.lattice_theory.specs.Size.{weight};
+ghost use Rattle.hull.specs.Hyperplanes.{StartsPositive};
+
+use arrayvec::ArrayVec;
+use lattice_core::{Functional, Point, pair};
+
+/// A number that is small enough, as an entry of a normal.
+fn narrowed(a: i128) -> i64
+    requires { nat_abs a < 2 ^ 63 }
+    ensures { result ≡ a }
+{
+    a as i64
+}
+
+/// The same entries, as those of a normal.
+fn narrowed_entries(vector: &[i128]) -> ArrayVec<i64, 6>
+    requires most { length vector.now ≤ 6 }
+    requires small { All (λ a. nat_abs a < 2 ^ 63) vector.now }
+    ensures { result.items ≡ vector.now }
+{
+    let mut entries = ArrayVec::new();
+    for entry in vector {
+        entries.push(narrowed(*entry));
+    }
+    entries
+}
+
+/// The function with this normal that vanishes at the point.
+pub(crate) fn function_at(normal: &[i128], p: &Point) -> Functional
+    requires same { length normal.now ≡ length p.now }
+    requires entries { All (λ a. nat_abs a < 2 ^ 63) normal.now }
+    requires small { weight p.now ≤ 2 ^ 30 }
+    ensures normal { result.normal ≡ normal.now }
+    ensures constant { result.constant ≡ neg_ℤ (dot normal.now p.now) }
+    ensures bound { nat_abs result.constant ≤ 2 ^ 96 }
+{
+    let coordinates = p.entries();
+    let entries = narrowed_entries(normal);
+    let constant = -pair(entries.as_slice(), coordinates);
+    match Functional::new(entries.as_slice(), constant) {
+        Some(function) => function,
+        None => unreachable!(),
+    }
+}
+
+/// The function with the opposite values.
+pub(crate) fn opposite(f: &Functional) -> Functional
+    requires entries { All (λ a. nat_abs a < 2 ^ 63) f.now.normal }
+    requires constant { nat_abs f.now.constant ≤ 2 ^ 96 }
+    ensures normal { result.normal ≡ scaled (negsuc 0) f.now.normal }
+    ensures constant { result.constant ≡ neg_ℤ f.now.constant }
+{
+    let mut entries: ArrayVec<i64, 6> = ArrayVec::new();
+    for entry in f.normal() {
+        entries.push(-*entry);
+    }
+    match Functional::new(entries.as_slice(), -f.constant()) {
+        Some(function) => function,
+        None => unreachable!(),
+    }
+}
+
+/// Whether the first entry that isn't 0 is positive.
+pub(crate) fn starts_positive(normal: &[i64]) -> bool
+    ensures { IsTrue result ↔ StartsPositive normal.now }
+{
+    for entry in normal {
+        if *entry != 0 {
+            return *entry > 0;
+        }
+    }
+    false
+}
+
+/// Whether no point lies on the function's negative side.
+pub(crate) fn is_nonnegative_on(points: &[Point], f: &Functional) -> bool
+    requires same { HaveDimension (length f.now.normal) points.now }
+    requires small { All (λ p. weight p ≤ 2 ^ 30) points.now }
+    requires constant { nat_abs f.now.constant ≤ 2 ^ 100 }
+    ensures { IsTrue result ↔ IsNonnegative points.now f.now }
+{
+    points.iter().all(|p| f.at(p) >= 0)
+}

@@ -1,0 +1,101 @@
+//! The kernel of a list of vectors, found by elimination: the members are primitive, at most 6, and lie in the value itself.
+
+ghost use Rattle.std.specs.Prelude.{◌≡◌, ◌≢◌, ◌⊎◌, ℕ, ◌+◌, ◌*◌, ◌^◌, ◌<◌, ◌≤◌, List, [], ◌∷◌, ◌++◌, length, take, drop, ℤ, pos, nat_abs, MatchOption, slice_index_or};
+ghost use Rattle.std.specs.List.{All};
+ghost use Rattle.lattice_theory.specs.Vector.{dot, IsPrimitive};
+ghost use Rattle.lattice_theory.specs.Size.{weight};
+ghost use Rattle.elimination.specs.Elimination.{Member, IsUnit};
+ghost use Rattle.lattice_core.specs.Limits.{size_limit_of};
+ghost use Rattle.hull.specs.Kernels.{IsPrimitiveKernel, IsSmallKernel, IsPivotAt, IsStepped};
+
+use crate::member::KernelMember;
+use crate::reduction::{pairing, reduced};
+use arrayvec::ArrayVec;
+
+/// The unit vector at the place `i`.
+fn unit_member(n: usize, i: usize) -> KernelMember
+    requires within { i < n }
+    requires most { n ≤ 6 }
+    ensures { IsUnit n i result }
+{
+    let mut vector = ArrayVec::new();
+    for j in 0..n {
+        vector.push(if i == j { 1 } else { 0 });
+    }
+    KernelMember::new(i, vector)
+}
+
+/// The kernel of no vectors: the unit vectors.
+pub(crate) fn kernel_of_none(n: usize) -> ArrayVec<KernelMember, 6>
+    requires { n ≤ 6 }
+    ensures kernel { IsPrimitiveKernel n [] result.items }
+    ensures count { length result.items ≡ n }
+{
+    let mut members = ArrayVec::new();
+    for i in 0..n {
+        members.push(unit_member(n, i));
+    }
+    members
+}
+
+/// The same members again.
+fn copies(kernel: &[KernelMember]) -> ArrayVec<KernelMember, 6>
+    requires { length kernel.now ≤ 6 }
+    ensures { result.items ≡ kernel.now }
+{
+    let mut members = ArrayVec::new();
+    for member in kernel {
+        members.push(member.copied());
+    }
+    members
+}
+
+/// The place of the first member that doesn't pair to 0 with the vector, where there is one.
+fn pivot_place(kernel: &[KernelMember], v: &[i64]) -> Option<usize>
+    requires kernel { IsSmallKernel (length v.now) kernel.now }
+    requires some { 1 ≤ length v.now }
+    requires most { length v.now ≤ 6 }
+    requires small { weight v.now ≤ 2 * size_limit_of (length v.now) }
+    ensures { MatchOption result (All (λ k. dot k.vector v.now ≡ pos 0) kernel.now) (IsPivotAt kernel.now v.now) }
+{
+    for (place, member) in kernel.iter().enumerate() {
+        if pairing(member.vector(), v) != 0 {
+            return Some(place);
+        }
+    }
+    None
+}
+
+/// The members before the pivot, and those behind it without the pivot's line.
+fn stepped(kernel: &[KernelMember], place: usize, v: &[i64]) -> ArrayVec<KernelMember, 6>
+    requires kernel { IsSmallKernel (length v.now) kernel.now }
+    requires some { 1 ≤ length v.now }
+    requires most { length v.now ≤ 6 }
+    requires small { weight v.now ≤ 2 * size_limit_of (length v.now) }
+    requires pivot { IsPivotAt kernel.now v.now place }
+    ensures { (h : IsPivotAt kernel.now v.now place) → IsStepped h.before h.pivot h.after v.now result.items }
+{
+    let mut members = copies(&kernel[..place]);
+    let pivot = &kernel[place];
+    let value = pairing(pivot.vector(), v);
+    for member in &kernel[place + 1..] {
+        members.push(reduced(pivot, value, member, pairing(member.vector(), v)));
+    }
+    members
+}
+
+/// The kernel with one more vector.
+pub(crate) fn kernel_with(kernel: &[KernelMember], v: &[i64]) -> ArrayVec<KernelMember, 6>
+    requires kernel { IsSmallKernel (length v.now) kernel.now }
+    requires some { 1 ≤ length v.now }
+    requires most { length v.now ≤ 6 }
+    requires small { weight v.now ≤ 2 * size_limit_of (length v.now) }
+    ensures kernel { (vs : List (List ℤ)) → IsPrimitiveKernel (length v.now) vs kernel.now → IsPrimitiveKernel (length v.now) (vs ++ (v.now ∷ [])) result.items }
+    ensures stays { length result.items ≡ length kernel.now → All (λ k. dot k.vector v.now ≡ pos 0) kernel.now }
+    ensures count { (length result.items ≡ length kernel.now) ⊎ (length result.items + 1 ≡ length kernel.now) }
+{
+    match pivot_place(kernel, v) {
+        Some(place) => stepped(kernel, place, v),
+        None => copies(kernel),
+    }
+}

@@ -1,0 +1,10 @@
+pub mod Boxes
+pub mod Pigeons
+pub mod Ranges
+pub mod Counting
+pub mod Sizes
+pub mod Normals
+pub mod KernelMembers
+pub mod Numbers
+pub mod Products
+pub mod Examples

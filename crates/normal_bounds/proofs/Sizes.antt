@@ -1,0 +1,90 @@
+-- Weights: of points within a size, of differences, and the bound that they give a pairing.
+use Rattle.std.proofs.Common.{◌≡◌, ℕ, zero, suc, ◌+◌, ◌*◌, ◌<◌, ◌≤◌, List, [], ◌∷◌, length, ℤ, pos, negsuc, ◌+ℤ◌, ◌-ℤ◌, ◌*ℤ◌, nat_abs, ⊎_elim, refl, sym, ap, ◌∙◌, subst, All, arith}
+use Rattle.std.proofs.lemmas.Int.{ints}
+use Rattle.std.proofs.lemmas.Bool.{cases_lt}
+use Rattle.std.proofs.lemmas.List.{get_or_default}
+use Rattle.std.proofs.Math.Nat.{mul-le-mul_right, le-max_left, le-max_right}
+use Rattle.lattice_theory.specs.Vector.{entry, dot}
+use Rattle.lattice_theory.specs.Size.{reach, size, weight}
+use Rattle.normal_bounds.specs.Bounds.{EntriesWithin}
+use Rattle.normal_bounds.specs.Laws.{PairingBound, PointWeight, DifferenceWeight}
+use Rattle.elimination.proofs.Vectors.{entry_past}
+use Rattle.elimination.proofs.Members.{In, here, there, each_from_all, all_from_each, each_from_in, each_in}
+
+-- a bound on all entries in the form of the library
+pub all_within : (bound : ℕ) (x : List ℤ) → EntriesWithin bound x → All (λ a. nat_abs a ≤ bound) x
+all_within bound x h k d l = subst (λ (a : ℤ). nat_abs a ≤ bound) (get_or_default x k (pos 0) d l) (h k)
+
+-- and back
+pub within_from_all : (bound : ℕ) (x : List ℤ) → All (λ a. nat_abs a ≤ bound) x → EntriesWithin bound x
+within_from_all bound x h i = ⊎_elim (λ (l : i < length x). h i (pos 0) l) (λ (l : length x ≤ i). let e = ap nat_abs (entry_past x i l) in omega (arith, ints)) (cases_lt i (length x))
+
+-- below a number that is above the bound
+pub all_below : (bound limit : ℕ) (x : List ℤ) → EntriesWithin bound x → bound < limit → All (λ a. nat_abs a < limit) x
+all_below bound limit x h l k d i = let e = all_within bound x h k d i in omega arith
+
+-- the absolute value of a product
+pub abs_product : (a b : ℤ) → nat_abs (a *ℤ b) ≡ nat_abs a * nat_abs b
+abs_product (pos m) (pos n) = omega (arith, ints)
+abs_product (pos m) (negsuc n) = omega (arith, ints)
+abs_product (negsuc m) (pos n) = omega (arith, ints)
+abs_product (negsuc m) (negsuc n) = omega (arith, ints)
+
+-- of a product and a sum
+product_and_sum : (bound : ℕ) (a b d : ℤ) (w : ℕ) → nat_abs a ≤ bound → nat_abs d ≤ bound * w → nat_abs (a *ℤ b +ℤ d) ≤ bound * (nat_abs b + w)
+product_and_sum bound a b d w h k = let e = abs_product a b in let f = mul-le-mul_right (nat_abs b) h in let g = sum_within (a *ℤ b) d in omega arith
+  where
+    sum_within : (a b : ℤ) → nat_abs (a +ℤ b) ≤ nat_abs a + nat_abs b
+    sum_within a b = omega (arith, ints)
+
+-- the law on pairings
+pub pairing_bound_lem : PairingBound
+pairing_bound_lem bound [] y h = omega (arith, ints)
+pairing_bound_lem bound (a ∷ x) [] h = omega (arith, ints)
+pairing_bound_lem bound (a ∷ x) (b ∷ y) h = product_and_sum bound a b (dot x y) (weight y) (h 0) (pairing_bound_lem bound x y (λ i. h (suc i)))
+
+-- the sum of the first n absolute values
+abbrev first_sum : ℕ → List ℤ → ℕ
+first_sum zero x = 0
+first_sum (suc n) x = first_sum n x + nat_abs (entry x n)
+
+-- of a vector with one more entry at its front
+first_sum-cons : (n : ℕ) (a : ℤ) (x : List ℤ) → first_sum (suc n) (a ∷ x) ≡ nat_abs a + first_sum n x
+first_sum-cons zero a x = omega arith
+first_sum-cons (suc n) a x = let e = first_sum-cons n a x in omega arith
+
+-- all of them together are the weight
+weight_sum : (x : List ℤ) → weight x ≡ first_sum (length x) x
+weight_sum [] = refl
+weight_sum (a ∷ x) = ap (λ (n : ℕ). nat_abs a + n) (weight_sum x) ∙ sym (first_sum-cons (length x) a x)
+
+-- no entry is above the largest
+reach_within : {p : List ℤ} (points : List (List ℤ)) (i : ℕ) → In p points → nat_abs (entry p i) ≤ reach points i
+reach_within [] i m = elim m [ ]
+reach_within (p ∷ points) i here = le-max_left (nat_abs (entry p i)) (reach points i)
+reach_within (q ∷ points) i (there m) = let e = reach_within points i m in let f = le-max_right (nat_abs (entry q i)) (reach points i) in omega arith
+
+-- so no sum is above the sum of the largest
+sum_within_size : {p : List ℤ} (n : ℕ) (points : List (List ℤ)) → In p points → first_sum n p ≤ size n points
+sum_within_size zero points m = omega arith
+sum_within_size (suc n) points m = let e = sum_within_size n points m in let f = reach_within points n m in omega arith
+
+-- a point of n coordinates
+weight_within_size : {p : List ℤ} (n : ℕ) (points : List (List ℤ)) → length p ≡ n → In p points → weight p ≤ size n points
+weight_within_size {p = p} n points e m = let f = weight_sum p in let g = ap (λ (k : ℕ). first_sum k p) e in let h = sum_within_size n points m in omega arith
+
+-- the law on points
+pub point_weight_lem : PointWeight
+point_weight_lem n points d = all_from_each (each_from_in points (λ p m. weight_within_size n points (each_in (each_from_all (λ q. length q ≡ n) points d) m) m))
+
+-- one more entry of a difference
+weight_more : (a b c : ℤ) (p q w : ℕ) → c ≡ a -ℤ b → w ≤ p + q → nat_abs c + w ≤ (nat_abs a + p) + (nat_abs b + q)
+weight_more a b c p q w e h = omega (arith, ints)
+
+-- the law on differences
+pub difference_weight_lem : DifferenceWeight
+difference_weight_lem p q [] h = omega arith
+difference_weight_lem [] [] (c ∷ w) h = weight_more (pos 0) (pos 0) c 0 0 (weight w) (h 0) (difference_weight_lem [] [] w (λ i. h (suc i)))
+difference_weight_lem [] (b ∷ q) (c ∷ w) h = weight_more (pos 0) b c 0 (weight q) (weight w) (h 0) (difference_weight_lem [] q w (λ i. h (suc i)))
+difference_weight_lem (a ∷ p) [] (c ∷ w) h = weight_more a (pos 0) c (weight p) 0 (weight w) (h 0) (difference_weight_lem p [] w (λ i. h (suc i)))
+difference_weight_lem (a ∷ p) (b ∷ q) (c ∷ w) h = weight_more a b c (weight p) (weight q) (weight w) (h 0) (difference_weight_lem p q w (λ i. h (suc i)))

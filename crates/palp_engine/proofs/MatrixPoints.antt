@@ -1,0 +1,27 @@
+-- The points of a matrix: how many they are, and that they have one dimension.
+use Rattle.std.specs.Prelude.{ℤ}
+use Rattle.std.specs.List.{range_with_len}
+use Rattle.std.proofs.Common.{◌≡◌, ℕ, ◌<◌, ◌≤◌, List, length, arith}
+use Rattle.std.proofs.lemmas.List.FromFn.{length-map-range_with_len}
+use Rattle.lattice_theory.specs.Vector.{HaveDimension}
+use Rattle.lattice_core.specs.Dimensions.{dimension_of}
+use Rattle.elimination.proofs.Members.{each_map, each_from_in, all_from_each}
+use Rattle.palp_engine.specs.Texts.{coordinate_of, coordinate_count, point_at, point_count, points_of}
+use Rattle.palp_engine.proofs.VertexLists.{first_dimension}
+
+-- each point has as many coordinates
+pub matrix_dimension : (lines columns : ℕ) (entries : List ℤ) → HaveDimension (coordinate_count lines columns) (points_of lines columns entries)
+matrix_dimension lines columns entries =
+    all_from_each (each_map (λ (p : List ℤ). length p ≡ coordinate_count lines columns) (point_at lines columns entries)
+    (each_from_in (range_with_len 0 (point_count lines columns)) (λ k i. length-map-range_with_len (coordinate_of lines columns entries k) 0 (coordinate_count lines columns))))
+
+-- there is a point
+pub some_point : (lines columns : ℕ) (entries : List ℤ) → 1 ≤ lines → 0 < length (points_of lines columns entries)
+some_point lines columns entries some =
+    let count = length-map-range_with_len (point_at lines columns entries) 0 (point_count lines columns) in
+    omega arith
+
+-- so this is the points' dimension
+pub matrix_first : (lines columns : ℕ) (entries : List ℤ) → 1 ≤ lines → dimension_of (points_of lines columns entries) ≡ coordinate_count lines columns
+matrix_first lines columns entries some =
+    first_dimension (coordinate_count lines columns) (points_of lines columns entries) (some_point lines columns entries some) (matrix_dimension lines columns entries)

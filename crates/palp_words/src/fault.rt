@@ -1,0 +1,32 @@
+// The first wrong word.
+use thiserror::Error;
+
+/// What is wrong with a word.
+#[derive(Clone, Copy, Debug, PartialEq, Eq)]
+pub enum WordKind {
+    /// A word is missing behind the last one.
+    Missing,
+    /// The first word isn't a command.
+    Command,
+    /// The word isn't one of the options.
+    Flag,
+    /// The word isn't one to nine digits where a number has to stand.
+    Number,
+    /// The number is out of its range.
+    Range,
+    /// The word stands behind the last one that the command takes.
+    Extra,
+    /// The word excludes one before it, or one of its letters another.
+    Conflict,
+}
+
+/// The first wrong word from the left. Words are counted from 1, the command being word 1; a
+/// missing word has the place behind the last one.
+#[derive(Clone, Copy, Debug, PartialEq, Eq, Error)]
+#[error("word {index}: {kind:?}")]
+pub struct WordFault {
+    /// The number of the word.
+    pub index: u32,
+    /// What is wrong with it.
+    pub kind: WordKind,
+}

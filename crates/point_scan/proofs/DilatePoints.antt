@@ -1,0 +1,107 @@
+-- The lattice points of a dilate are the points of its box that lie inside all facets.
+use Rattle.std.specs.Prelude.{ℤ, pos, ◌-ℤ◌, ◌*ℤ◌, ◌≤ℤ◌, int_le}
+use Rattle.std.specs.List.{filter}
+use Rattle.std.proofs.Common.{◌≡◌, ℕ, ◌<◌, true, List, length, sym, ◌∙◌, arith}
+use Rattle.std.proofs.lemmas.Int.{ints}
+use Rattle.std.proofs.lemmas.List.Elements.{All-contains}
+use Rattle.lattice_theory.specs.Vector.{entry}
+use Rattle.lattice_theory.specs.Affine.{Affine, value_over, IsNonnegative}
+use Rattle.lattice_theory.specs.Order.{LexLess}
+use Rattle.lattice_theory.specs.Facet.{AreFacets}
+use Rattle.lattice_theory.specs.Points.{IsLatticePoint, AreLatticePoints, IsDilatePoint}
+use Rattle.lattice_theory.proofs.Integers.{linear}
+use Rattle.elimination.proofs.Members.{In, each_from_in, each_in, in_from_contains, contains_from_in}
+use Rattle.facet_theory.specs.Laws.{AreSolid}
+use Rattle.facet_theory.proofs.Lifted.{value_at_one}
+use Rattle.facet_theory.proofs.Signs.{nonnegative_same, nonnegative_from}
+use Rattle.facet_theory.proofs.Coordinates.{above_low, below_high, length-above_low, length-below_high, above_low-over, below_high-over, above_low-value, below_high-value}
+use Rattle.facet_theory.proofs.Generate.{facets_generate_lem}
+use Rattle.facet_theory.proofs.Hull.{sum_nonnegative, hull_by_facets_lem}
+use Rattle.point_scan.specs.Boxes.{grid, IsInBox, IsSpan, AreCorners}
+use Rattle.point_scan.specs.Dilates.{is_inside, AreDilatePoints}
+use Rattle.point_scan.proofs.Sublists.{in_filter, from_filter, ascends_filter, each_passes, all_pass}
+use Rattle.point_scan.proofs.Grids.{from_grid, in_grid, ascends_grid}
+
+-- inside, as a test and as a fact
+test_of : (z : ℤ) → pos 0 ≤ℤ z → int_le (pos 0) z ≡ true
+test_of z h = grind (arith, ints)
+
+-- and back
+fact_of : (z : ℤ) → int_le (pos 0) z ≡ true → pos 0 ≤ℤ z
+fact_of z e = grind (arith, ints)
+
+-- the order by differences
+difference_from : (a b : ℤ) → a ≤ℤ b → pos 0 ≤ℤ (b -ℤ a)
+difference_from a b h = omega (arith, linear)
+
+-- and back
+order_from : (a b : ℤ) → pos 0 ≤ℤ (b -ℤ a) → a ≤ℤ b
+order_from a b h = omega (arith, linear)
+
+module _ (n : ℕ) (points : List (List ℤ)) (solid : AreSolid n points) (j : ℕ) where
+  -- a function that is nonnegative on the points is nonnegative on the dilate, its constant taken j times
+  nonnegative_over : (x : List ℤ) → IsDilatePoint n points j x → (f : Affine) → length f.normal ≡ n → IsNonnegative points f → pos 0 ≤ℤ value_over f x (pos j)
+  nonnegative_over x dilate f e h = sum_nonnegative n points f (facets_generate_lem n points solid f e h) x (pos j) dilate.inside
+
+  -- so each coordinate of the dilate is within j times its span
+  in_span : (x : List ℤ) → IsDilatePoint n points j x → (i : ℕ) → i < n → (low high : ℤ) → IsSpan points i low high
+      → ((pos j *ℤ low) ≤ℤ entry x i) × (entry x i ≤ℤ (pos j *ℤ high))
+  in_span x dilate i l low high span = (
+    order_from (pos j *ℤ low) (entry x i) (nonnegative_same (above_low-over n i low l x (pos j))
+        (nonnegative_over x dilate (above_low n i low) (length-above_low n i low)
+        (nonnegative_from points (above_low n i low) (λ q m. nonnegative_same (sym (above_low-value n i low l q)) (difference_from low (entry q i) (at q m).0))))),
+    order_from (entry x i) (pos j *ℤ high) (nonnegative_same (below_high-over n i high l x (pos j))
+        (nonnegative_over x dilate (below_high n i high) (length-below_high n i high)
+        (nonnegative_from points (below_high n i high) (λ q m. nonnegative_same (sym (below_high-value n i high l q)) (difference_from (entry q i) high (at q m).1))))),
+  )
+    where
+      at : (q : List ℤ) → In q points → (low ≤ℤ entry q i) × (entry q i ≤ℤ high)
+      at q m = All-contains (λ p. (low ≤ℤ entry p i) × (entry p i ≤ℤ high)) points q span.within (contains_from_in m)
+
+  module _ (low high : List ℤ) (corners : AreCorners n points j low high) where
+    -- so the dilate lies in the box
+    dilate_in_box : (x : List ℤ) → IsDilatePoint n points j x → IsInBox low high x
+    dilate_in_box x dilate = record {
+      low_dimension = corners.low_dimension ∙ sym dilate.dimension;
+      high_dimension = corners.high_dimension ∙ sym dilate.dimension;
+      within = λ i l.
+          let within : i < n = let e = dilate.dimension in omega arith in
+          let s = corners.spans i within in
+          let b = in_span x dilate i within s.lowest s.highest s.spans in
+          (rw s.low_is b.0, rw s.high_is b.1);
+    }
+
+    module _ (facets : List Affine) (are : AreFacets n points facets) where
+      -- each of the points that are kept is in the dilate
+      kept_is_dilate : (p : List ℤ) → In p (filter (is_inside facets j) (grid low high)) → IsDilatePoint n points j p
+      kept_is_dilate p i =
+          let kept = from_filter (is_inside facets j) (grid low high) i in
+          let box = from_grid low high p (corners.low_dimension ∙ sym corners.high_dimension) kept.member in
+          let passes = each_passes (λ (f : Affine). int_le (pos 0) (value_over f p (pos j))) facets kept.passes in
+          record {
+            dimension = sym box.low_dimension ∙ corners.low_dimension;
+            inside = λ f facet. fact_of (value_over f p (pos j)) (each_in passes (in_from_contains facets ((are.members f).1 facet)));
+          }
+
+      -- each of the dilate is kept
+      dilate_is_kept : (p : List ℤ) → IsDilatePoint n points j p → In p (filter (is_inside facets j) (grid low high))
+      dilate_is_kept p dilate =
+          in_filter (is_inside facets j) (grid low high) (in_grid low high p (dilate_in_box p dilate))
+          (all_pass (λ (f : Affine). int_le (pos 0) (value_over f p (pos j))) facets
+          (each_from_in facets (λ f m. test_of (value_over f p (pos j)) (dilate.inside f ((are.members f).0 (contains_from_in m))))))
+
+      pub inside_are_dilate_points : AreDilatePoints n points j (filter (is_inside facets j) (grid low high))
+      inside_are_dilate_points = record {
+        ascends = ascends_filter LexLess (is_inside facets j) (grid low high) (ascends_grid low high);
+        members = λ p. (λ c. kept_is_dilate p (in_from_contains (filter (is_inside facets j) (grid low high)) c), λ d. contains_from_in (dilate_is_kept p d));
+      }
+
+-- the first dilate is the hull
+pub lattice_from_dilate : (n : ℕ) (points : List (List ℤ)) → AreSolid n points → (xs : List (List ℤ)) → AreDilatePoints n points 1 xs → AreLatticePoints n points xs
+lattice_from_dilate n points solid xs are = record { ascends = are.ascends; members = λ p. (λ c. to p ((are.members p).0 c), λ l. (are.members p).1 (from p l)) }
+  where
+    to : (p : List ℤ) → IsDilatePoint n points 1 p → IsLatticePoint n points p
+    to p d = record { dimension = d.dimension; inside = (hull_by_facets_lem n points solid p d.dimension).1 (λ f facet. nonnegative_same (value_at_one f p) (d.inside f facet)) }
+
+    from : (p : List ℤ) → IsLatticePoint n points p → IsDilatePoint n points 1 p
+    from p l = record { dimension = l.dimension; inside = λ f facet. nonnegative_same (sym (value_at_one f p)) ((hull_by_facets_lem n points solid p l.dimension).0 l.inside f facet) }

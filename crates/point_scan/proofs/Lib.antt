@@ -1,0 +1,11 @@
+pub mod Sublists
+pub mod Grids
+pub mod Steps
+pub mod Walks
+pub mod Values
+pub mod Reaches
+pub mod Weights
+pub mod Constants
+pub mod DilatePoints
+pub mod Passes
+pub mod Gains

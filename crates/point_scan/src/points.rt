@@ -1,0 +1,100 @@
+//! The lattice points of a polytope and of its dilates.
+
+ghost use Rattle.std.specs.Prelude.{◌≡◌, ◌^◌, ◌<◌, ◌≤◌, length, IsOk, IfOk, IfErr};
+ghost use Rattle.lattice_theory.specs.Vector.{HaveDimension};
+ghost use Rattle.lattice_theory.specs.Size.{size};
+ghost use Rattle.lattice_theory.specs.Facet.{IsFlat, AreFacets};
+ghost use Rattle.lattice_theory.specs.Points.{AreLatticePoints};
+ghost use Rattle.lattice_core.specs.Limits.{size_limit_of};
+ghost use Rattle.lattice_core.specs.Dimensions.{dimension_of};
+ghost use Rattle.point_scan.specs.Dilates.{CountsDilatePoints};
+ghost use Rattle.point_scan.specs.Faults.{IsScanFault};
+
+use crate::inside::ruled_out;
+use crate::walk::Walk;
+use lattice_core::{Fault, Functional, LimitName, NoMemory, Point, Refusal};
+use std::alloc::Global;
+
+/// The greatest number of lattice points that a scan gives.
+const MOST_POINTS: usize = 16_384;
+
+/// The point at the position.
+fn point_at(position: &[i64]) -> Point
+    requires least { 1 ≤ length position.now }
+    requires most { length position.now ≤ 6 }
+    ensures { result ≡ position.now }
+{
+    match Point::new(position) {
+        Some(point) => point,
+        None => unreachable!(),
+    }
+}
+
+/// All lattice points of the hull of vertices that aren't flat, each once, in lexicographic order. `facets` are the vertices' facets. At
+/// least one vertex of 1 to 6 coordinates, within the size limit. More than 16,384 lattice points are refused with the number 16,385, and
+/// nothing else is refused but for memory. Source: math/0204356, section 2.
+pub fn scan(alloc: Global, vertices: &[Point], facets: &[Functional]) -> Result<Vec<Point>, Fault>
+    requires some { 0 < length vertices.now }
+    requires dimension { HaveDimension (dimension_of vertices.now) vertices.now }
+    requires within { size (dimension_of vertices.now) vertices.now ≤ size_limit_of (dimension_of vertices.now) }
+    requires solid { IsFlat (dimension_of vertices.now) vertices.now → ⊥ }
+    requires facets { AreFacets (dimension_of vertices.now) vertices.now facets.now }
+    ensures points { IfOk result (λ points. AreLatticePoints (dimension_of vertices.now) vertices.now points.items) }
+    ensures few { IfOk result (λ points. length points.items ≤ 16_384) }
+    ensures refused { IfErr result (IsScanFault (dimension_of vertices.now) vertices.now) }
+{
+    let mut walk = Walk::start(vertices, 1);
+    let mut points = Vec::new(alloc);
+    loop {
+        if let Some(kept) = ruled_out(facets, 1, &walk) {
+            walk.pass_over(kept);
+        } else if points.len() < MOST_POINTS {
+            points.push(point_at(walk.position()))?;
+        } else {
+            return Err(Fault::Refused(Refusal::Limit(LimitName::Points, 16_385)));
+        }
+        if !walk.advance() {
+            return Ok(points);
+        }
+    }
+}
+
+/// The number of lattice points of the dilate of the hull of vertices that aren't flat, or `limit` + 1 where there are more than `limit`.
+/// These are the integer points at which each facet, its constant taken `dilate` times, is nonnegative; for the dilate 0 that is the origin
+/// alone. `facets` are the vertices' facets. At least one vertex of 1 to 6 coordinates, within the size limit; the dilate is at most 7, and
+/// the limit at most 2^40. The box is walked without memory, so there is always an answer. Source: math/0204356, section 2.
+pub fn count_to(
+    _alloc: Global,
+    vertices: &[Point],
+    facets: &[Functional],
+    dilate: u32,
+    limit: u64,
+) -> Result<u64, NoMemory>
+    requires some { 0 < length vertices.now }
+    requires dimension { HaveDimension (dimension_of vertices.now) vertices.now }
+    requires within { size (dimension_of vertices.now) vertices.now ≤ size_limit_of (dimension_of vertices.now) }
+    requires solid { IsFlat (dimension_of vertices.now) vertices.now → ⊥ }
+    requires facets { AreFacets (dimension_of vertices.now) vertices.now facets.now }
+    requires dilate { dilate ≤ 7 }
+    requires limit { limit ≤ 2 ^ 40 }
+    ensures answered { IsOk result }
+    ensures counts { IfOk result (CountsDilatePoints (dimension_of vertices.now) vertices.now dilate limit) }
+{
+    let mut walk = Walk::start(vertices, dilate);
+    let mut count = 0;
+    loop {
+        if let Some(kept) = ruled_out(facets, dilate, &walk) {
+            walk.pass_over(kept);
+        } else if count < limit {
+            count += 1;
+        } else {
+            return Ok(limit + 1);
+        }
+        if !walk.advance() {
+            return Ok(count);
+        }
+    }
+}
+
+#[cfg(test)]
+mod tests;

@@ -1,0 +1,130 @@
+//! Scans and counts of small polytopes.
+
+ghost use Rattle.std.specs.Prelude.{◌<◌, ◌≤◌, length, IsTrue};
+ghost use Rattle.lattice_theory.specs.Vector.{HaveDimension};
+ghost use Rattle.lattice_core.specs.Dimensions.{dimension_of};
+
+use crate::{count_to, scan};
+use hull::facets_of;
+use lattice_core::{Fault, LimitName, NoMemory, Point, Refusal};
+use std::alloc::Global;
+use std::test::Fail;
+
+/// The points with these entries.
+fn points_of<const N: usize>(alloc: Global, entries: &[[i64; N]]) -> Result<Vec<Point>, NoMemory> {
+    let mut points = Vec::new(alloc);
+    for x in entries {
+        if let Some(point) = Point::new(x.as_slice()) {
+            points.push(point)?;
+        }
+    }
+    Ok(points)
+}
+
+/// Whether there is a point, and all have as many coordinates as the first.
+fn have_one_dimension(points: &[Point]) -> bool
+    ensures some { IsTrue result → 0 < length points.now }
+    ensures dimension { IsTrue result → HaveDimension (dimension_of points.now) points.now }
+{
+    if points.is_empty() {
+        return false;
+    }
+    let n = points[0].dim();
+    points.iter().all(|p| p.dim() == n)
+}
+
+fn scanned<const N: usize>(alloc: Global, entries: &[[i64; N]]) -> Result<Vec<Point>, Fault> {
+    let vertices = points_of(alloc, entries)?;
+    if !have_one_dimension(&vertices) {
+        return Ok(Vec::new(alloc));
+    }
+    let facets = facets_of(alloc, &vertices)?;
+    scan(alloc, &vertices, &facets)
+}
+
+fn counted<const N: usize>(
+    alloc: Global,
+    entries: &[[i64; N]],
+    dilate: u32,
+    limit: u64,
+) -> Result<u64, Fault>
+    requires dilate { dilate ≤ 7 }
+    requires limit { limit ≤ 100 }
+{
+    let vertices = points_of(alloc, entries)?;
+    if !have_one_dimension(&vertices) {
+        return Ok(0);
+    }
+    let facets = facets_of(alloc, &vertices)?;
+    Ok(count_to(alloc, &vertices, &facets, dilate, limit)?)
+}
+
+#[test]
+fn lists_the_points_of_a_triangle_in_order(rt: HostRuntime) -> Result<(), Fail> {
+    let found = scanned(rt.alloc(), &[[-1, -1], [3, -1], [-1, 2]])?;
+    let want = [
+        [-1, -1],
+        [-1, 0],
+        [-1, 1],
+        [-1, 2],
+        [0, -1],
+        [0, 0],
+        [0, 1],
+        [1, -1],
+        [1, 0],
+        [2, -1],
+        [3, -1],
+    ];
+    assert_eq!(rt; found.len(), want.len());
+    assert!(rt;
+        found
+            .iter()
+            .zip(&want)
+            .all(|(point, entries)| point.entries() == entries.as_slice())
+    );
+    Ok(())
+}
+
+#[test]
+fn counts_the_points_of_dilates(rt: HostRuntime) -> Result<(), Fail> {
+    let triangle = [[-1, -1], [-1, 2], [2, -1]];
+    for (dilate, limit, want) in [
+        (0, 100, 1),
+        (1, 100, 10),
+        (2, 100, 28),
+        (2, 20, 21),
+        (2, 28, 28),
+    ] {
+        assert_eq!(rt; counted(rt.alloc(), &triangle, dilate, limit)?, want);
+    }
+    Ok(())
+}
+
+#[test]
+fn counts_the_points_of_solids(rt: HostRuntime) -> Result<(), Fail> {
+    let octahedron = [
+        [1, 0, 0],
+        [-1, 0, 0],
+        [0, 1, 0],
+        [0, -1, 0],
+        [0, 0, 1],
+        [0, 0, -1],
+    ];
+    assert_eq!(rt; scanned(rt.alloc(), &octahedron)?.len(), 7);
+    assert_eq!(rt; counted(rt.alloc(), &octahedron, 2, 100)?, 25);
+    let segment = [[5], [-2]];
+    assert_eq!(rt; scanned(rt.alloc(), &segment)?.len(), 8);
+    Ok(())
+}
+
+#[test]
+fn refuses_more_points_than_the_limit(rt: HostRuntime) -> Result<(), Fail> {
+    let full = scanned(rt.alloc(), &[[-64, -64], [63, -64], [-64, 63], [63, 63]])?;
+    assert_eq!(rt; full.len(), 16_384);
+    let more = scanned(rt.alloc(), &[[-72, -56], [72, -56], [-72, 56], [72, 56]]);
+    assert_eq!(rt;
+        more.err(),
+        Some(Fault::Refused(Refusal::Limit(LimitName::Points, 16_385)))
+    );
+    Ok(())
+}
