@@ -42,6 +42,7 @@ pub(crate) fn all_facets(alloc: Global, points: &[Point]) -> Result<Vec<Function
 pub(crate) fn sized(points: &[Point]) -> Result<(), Refusal>
     requires some { 0 < length points.now }
     requires one_dimension { HaveDimension (dimension_of points.now) points.now }
+    ensures least { 1 ≤ dimension_of points.now }
     ensures within { OnOk result (IsSized (dimension_of points.now) points.now) }
     ensures refused { IfErr result (IsSizeRefusal (dimension_of points.now) points.now) }
 {
@@ -57,6 +58,7 @@ pub(crate) fn sized(points: &[Point]) -> Result<(), Refusal>
 pub(crate) fn solid(points: &[Point]) -> Result<(), Refusal>
     requires some { 0 < length points.now }
     requires one_dimension { HaveDimension (dimension_of points.now) points.now }
+    ensures least { 1 ≤ dimension_of points.now }
     ensures within { OnOk result (IsSized (dimension_of points.now) points.now) }
     ensures solid { OnOk result (IsFlat (dimension_of points.now) points.now → ⊥) }
     ensures refused { IfErr result (IsStartRefusal (dimension_of points.now) points.now) }

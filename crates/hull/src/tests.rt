@@ -1,71 +1,57 @@
-//! Hulls of small lists of points in each dimension.
+//! Hulls of small lists of points.
 
-ghost use Rattle.std.specs.Prelude.{◌≡◌, ◌<◌, ◌≤◌, length, IsTrue};
+ghost use Rattle.std.specs.Prelude.{◌≡◌, ◌<◌, ◌≤◌, length, IfOk};
 ghost use Rattle.lattice_theory.specs.Vector.{HaveDimension};
 ghost use Rattle.lattice_core.specs.Dimensions.{dimension_of};
 
-use crate::{HullBuilder, facets_of, vertices_of};
-use lattice_core::{Fault, Functional, NoMemory, Point, Refusal};
+use crate::facets::sized;
+use crate::{HullBuilder, facets_of, flat_function, hyperplane, vertices_of};
+use lattice_core::{Fault, Functional, LimitName, NoMemory, Point, Refusal};
 use std::alloc::Global;
 use std::test::Fail;
 
-/// The points with these entries.
-fn points_of<const N: usize>(alloc: Global, entries: &[[i64; N]]) -> Result<Vec<Point>, NoMemory> {
+/// The rows with `n` entries, as points.
+fn points_in(alloc: Global, n: usize, rows: &[&[i64]]) -> Result<Vec<Point>, NoMemory>
+    ensures one_dimension { IfOk result (λ points. HaveDimension (dimension_of points.items) points.items) }
+    ensures dimension { IfOk result (λ points. 0 < length points.items → dimension_of points.items ≡ n) }
+{
     let mut points = Vec::new(alloc);
-    for x in entries {
-        if let Some(point) = Point::new(x.as_slice()) {
-            points.push(point)?;
+    for row in rows {
+        if let Some(point) = Point::new(row) {
+            if point.dim() == n {
+                points.push(point)?;
+            }
         }
     }
     Ok(points)
 }
 
-/// Whether there is a point, and all have as many coordinates as the first.
-fn have_one_dimension(points: &[Point]) -> bool
-    ensures some { IsTrue result → 0 < length points.now }
-    ensures dimension { IsTrue result → HaveDimension (dimension_of points.now) points.now }
-{
-    if points.is_empty() {
-        return false;
-    }
-    let n = points[0].dim();
-    points.iter().all(|p| p.dim() == n)
-}
-
-fn are_functions<const N: usize>(
-    found: &[Functional],
-    normals: &[[i64; N]],
-    constants: &[i128],
-) -> bool {
+fn are_functions(found: &[Functional], normals: &[&[i64]], constants: &[i128]) -> bool {
     found.len() == normals.len()
         && found
             .iter()
             .zip(normals)
-            .all(|(f, normal)| f.normal() == normal.as_slice())
+            .all(|(f, normal)| f.normal() == *normal)
         && found
             .iter()
             .zip(constants)
             .all(|(f, constant)| f.constant() == *constant)
 }
 
-fn are_points<const N: usize>(found: &[Point], want: &[[i64; N]]) -> bool {
-    found.len() == want.len()
-        && found
-            .iter()
-            .zip(want)
-            .all(|(p, x)| p.entries() == x.as_slice())
+fn are_points(found: &[Point], want: &[&[i64]]) -> bool {
+    found.len() == want.len() && found.iter().zip(want).all(|(p, x)| p.entries() == *x)
 }
 
-/// Whether the points have these facets and vertices.
-fn has_hull<const N: usize>(
+fn has_hull(
     alloc: Global,
-    entries: &[[i64; N]],
-    normals: &[[i64; N]],
+    n: usize,
+    rows: &[&[i64]],
+    normals: &[&[i64]],
     constants: &[i128],
-    vertices: &[[i64; N]],
+    vertices: &[&[i64]],
 ) -> Result<bool, Fault> {
-    let points = points_of(alloc, entries)?;
-    if !have_one_dimension(&points) {
+    let points = points_in(alloc, n, rows)?;
+    if points.is_empty() {
         return Ok(false);
     }
     let facets = facets_of(alloc, &points)?;
@@ -78,49 +64,86 @@ fn finds_facets_and_vertices_in_order(rt: HostRuntime) -> Result<(), Fail> {
     assert!(rt;
         has_hull(
             rt.alloc(),
-            &[[5], [-2], [1]],
-            &[[-1], [1]],
+            1,
+            &[&[5], &[-2], &[1]],
+            &[&[-1], &[1]],
             &[5, 2],
-            &[[-2], [5]]
+            &[&[-2], &[5]]
         )?
     );
-    let triangle = [[-1, -1], [3, -1], [-1, 2]];
     assert!(rt;
         has_hull(
             rt.alloc(),
-            &triangle,
-            &[[-3, -4], [0, 1], [1, 0]],
+            2,
+            &[&[-1, -1], &[3, -1], &[-1, 2], &[0, 0]],
+            &[&[-3, -4], &[0, 1], &[1, 0]],
             &[5, 1, 1],
-            &[[-1, -1], [-1, 2], [3, -1]]
+            &[&[-1, -1], &[-1, 2], &[3, -1]]
         )?
     );
-    let square = [[1, 1], [1, -1], [-1, 1], [-1, -1], [1, 1], [0, 0]];
+    Ok(())
+}
+
+#[test]
+fn finds_hulls_in_more_dimensions(rt: HostRuntime) -> Result<(), Fail> {
     assert!(rt;
         has_hull(
             rt.alloc(),
-            &square,
-            &[[-1, 0], [0, -1], [0, 1], [1, 0]],
-            &[1, 1, 1, 1],
-            &[[-1, -1], [-1, 1], [1, -1], [1, 1]]
+            3,
+            &[
+                &[1, 1, 0],
+                &[0, 0, 0],
+                &[1, 0, 0],
+                &[0, 1, 0],
+                &[0, 0, 1],
+                &[0, 0, 0]
+            ],
+            &[
+                &[-1, 0, -1],
+                &[0, -1, -1],
+                &[0, 0, 1],
+                &[0, 1, 0],
+                &[1, 0, 0]
+            ],
+            &[1, 1, 0, 0, 0],
+            &[&[0, 0, 0], &[0, 0, 1], &[0, 1, 0], &[1, 0, 0], &[1, 1, 0]]
         )?
     );
-    let simplex = [[0, 0, 0], [1, 0, 0], [0, 1, 0], [0, 0, 2]];
     assert!(rt;
         has_hull(
             rt.alloc(),
-            &simplex,
-            &[[-2, -2, -1], [0, 0, 1], [0, 1, 0], [1, 0, 0]],
-            &[2, 0, 0, 0],
-            &[[0, 0, 0], [0, 0, 2], [0, 1, 0], [1, 0, 0]]
+            4,
+            &[
+                &[-1, -1, -1, -1],
+                &[1, 0, 0, 0],
+                &[0, 1, 0, 0],
+                &[0, 0, 1, 0],
+                &[0, 0, 0, 1]
+            ],
+            &[
+                &[-1, -1, -1, -1],
+                &[-1, -1, -1, 4],
+                &[-1, -1, 4, -1],
+                &[-1, 4, -1, -1],
+                &[4, -1, -1, -1]
+            ],
+            &[1, 1, 1, 1, 1],
+            &[
+                &[-1, -1, -1, -1],
+                &[0, 0, 0, 1],
+                &[0, 0, 1, 0],
+                &[0, 1, 0, 0],
+                &[1, 0, 0, 0]
+            ]
         )?
     );
     Ok(())
 }
 
 /// The numbers of facets and of vertices.
-fn counts<const N: usize>(alloc: Global, entries: &[[i64; N]]) -> Result<(usize, usize), Fault> {
-    let points = points_of(alloc, entries)?;
-    if !have_one_dimension(&points) {
+fn counts(alloc: Global, n: usize, rows: &[&[i64]]) -> Result<(usize, usize), Fault> {
+    let points = points_in(alloc, n, rows)?;
+    if points.is_empty() {
         return Ok((0, 0));
     }
     let facets = facets_of(alloc, &points)?;
@@ -130,90 +153,132 @@ fn counts<const N: usize>(alloc: Global, entries: &[[i64; N]]) -> Result<(usize,
 
 #[test]
 fn counts_cubes_and_cross_polytopes(rt: HostRuntime) -> Result<(), Fail> {
-    let octahedron = [
-        [1, 0, 0],
-        [-1, 0, 0],
-        [0, 1, 0],
-        [0, -1, 0],
-        [0, 0, 1],
-        [0, 0, -1],
-        [0, 0, 0],
+    let cube: [&[i64]; 9] = [
+        &[1, 1, 1],
+        &[1, 1, -1],
+        &[1, -1, 1],
+        &[1, -1, -1],
+        &[-1, 1, 1],
+        &[-1, 1, -1],
+        &[-1, -1, 1],
+        &[-1, -1, -1],
+        &[0, 0, 0],
     ];
-    assert_eq!(rt; counts(rt.alloc(), &octahedron)?, (8, 6));
-    let cube = [
-        [1, 1, 1],
-        [1, 1, -1],
-        [1, -1, 1],
-        [1, -1, -1],
-        [-1, 1, 1],
-        [-1, 1, -1],
-        [-1, -1, 1],
-        [-1, -1, -1],
+    assert_eq!(rt; counts(rt.alloc(), 3, &cube)?, (6, 8));
+    let cross_polytope: [&[i64]; 8] = [
+        &[1, 0, 0, 0],
+        &[-1, 0, 0, 0],
+        &[0, 1, 0, 0],
+        &[0, -1, 0, 0],
+        &[0, 0, 1, 0],
+        &[0, 0, -1, 0],
+        &[0, 0, 0, 1],
+        &[0, 0, 0, -1],
     ];
-    assert_eq!(rt; counts(rt.alloc(), &cube)?, (6, 8));
-    let cross = [
-        [1, 0, 0, 0],
-        [-1, 0, 0, 0],
-        [0, 1, 0, 0],
-        [0, -1, 0, 0],
-        [0, 0, 1, 0],
-        [0, 0, -1, 0],
-        [0, 0, 0, 1],
-        [0, 0, 0, -1],
-    ];
-    assert_eq!(rt; counts(rt.alloc(), &cross)?, (16, 8));
-    let simplex = [
-        [1, 0, 0, 0, 0],
-        [0, 1, 0, 0, 0],
-        [0, 0, 1, 0, 0],
-        [0, 0, 0, 1, 0],
-        [0, 0, 0, 0, 1],
-        [-1, -1, -1, -1, -1],
-    ];
-    assert_eq!(rt; counts(rt.alloc(), &simplex)?, (6, 6));
-    let large = [
-        [0, 0, 0, 0, 0, 0],
-        [1019, 0, 0, 0, 0, 0],
-        [0, 1, 0, 0, 0, 0],
-        [0, 0, 1, 0, 0, 0],
-        [0, 0, 0, 1, 0, 0],
-        [0, 0, 0, 0, 1, 0],
-        [0, 0, 0, 0, 0, 1],
-    ];
-    assert_eq!(rt; counts(rt.alloc(), &large)?, (7, 7));
+    assert_eq!(rt; counts(rt.alloc(), 4, &cross_polytope)?, (16, 8));
     Ok(())
 }
 
-/// Whether the points are refused with this flat function.
-fn is_flat<const N: usize>(
-    alloc: Global,
-    entries: &[[i64; N]],
-    normal: &[i64],
-    constant: i128,
-) -> Result<bool, Fault> {
-    let points = points_of(alloc, entries)?;
-    if !have_one_dimension(&points) {
-        return Ok(false);
+#[test]
+fn counts_simplices(rt: HostRuntime) -> Result<(), Fail> {
+    let simplex: [&[i64]; 7] = [
+        &[1, 0, 0, 0, 0],
+        &[0, 1, 0, 0, 0],
+        &[0, 0, 1, 0, 0],
+        &[0, 0, 0, 1, 0],
+        &[0, 0, 0, 0, 1],
+        &[-1, -1, -1, -1, -1],
+        &[0, 0, 0, 0, 1],
+    ];
+    assert_eq!(rt; counts(rt.alloc(), 5, &simplex)?, (6, 6));
+    let long_simplex: [&[i64]; 7] = [
+        &[0, 0, 0, 0, 0, 0],
+        &[1019, 0, 0, 0, 0, 0],
+        &[0, 1, 0, 0, 0, 0],
+        &[0, 0, 1, 0, 0, 0],
+        &[0, 0, 0, 1, 0, 0],
+        &[0, 0, 0, 0, 1, 0],
+        &[0, 0, 0, 0, 0, 1],
+    ];
+    assert_eq!(rt; counts(rt.alloc(), 6, &long_simplex)?, (7, 7));
+    Ok(())
+}
+
+fn refusal(alloc: Global, n: usize, rows: &[&[i64]]) -> Result<Option<Refusal>, NoMemory> {
+    let points = points_in(alloc, n, rows)?;
+    if points.is_empty() {
+        return Ok(None);
     }
     match facets_of(alloc, &points) {
-        Err(Fault::Refused(Refusal::Flat(f))) => {
-            Ok(f.normal() == normal && f.constant() == constant)
-        }
-        _ => Ok(false),
+        Err(Fault::Refused(refusal)) => Ok(Some(refusal)),
+        _ => Ok(None),
     }
 }
 
 #[test]
-fn refuses_flat_points_with_their_flat_function(rt: HostRuntime) -> Result<(), Fail> {
-    assert!(rt; is_flat(rt.alloc(), &[[0, 0], [1, 1], [2, 2]], &[-1, 1], 0)?);
-    assert!(rt; is_flat(rt.alloc(), &[[3, 5], [3, 5]], &[1, 0], -3)?);
-    assert!(rt;
-        is_flat(
-            rt.alloc(),
-            &[[1, 0, 0], [0, 1, 0], [0, 0, 1]],
-            &[1, 1, 1],
-            -1
-        )?
+fn refuses_flat_and_large_points(rt: HostRuntime) -> Result<(), Fail> {
+    let function = Functional::new(&[-1, 1], 0);
+    assert_eq!(rt;
+        refusal(rt.alloc(), 2, &[&[0, 0], &[1, 1], &[2, 2]])?,
+        function.map(Refusal::Flat)
+    );
+    assert_eq!(rt;
+        refusal(rt.alloc(), 1, &[&[1_073_741_825], &[0]])?,
+        Some(Refusal::Limit(LimitName::Size, 1_073_741_825))
+    );
+    Ok(())
+}
+
+fn plane_through(alloc: Global, rows: &[&[i64]]) -> Result<Option<Functional>, Fault> {
+    let points = points_in(alloc, 3, rows)?;
+    if points.len() != 3 {
+        return Ok(None);
+    }
+    sized(&points)?;
+    Ok(hyperplane(&points))
+}
+
+fn flat_function_of(alloc: Global, rows: &[&[i64]]) -> Result<Option<Functional>, Fault> {
+    let points = points_in(alloc, 3, rows)?;
+    if points.is_empty() {
+        return Ok(None);
+    }
+    sized(&points)?;
+    Ok(flat_function(&points))
+}
+
+#[test]
+fn finds_hyperplanes_and_flat_functions(rt: HostRuntime) -> Result<(), Fail> {
+    assert_eq!(rt;
+        plane_through(rt.alloc(), &[&[1, 0, 0], &[0, 1, 0], &[0, 0, 1]])?,
+        Functional::new(&[1, 1, 1], -1)
+    );
+    let twice: [&[i64]; 3] = [&[1, 0, 0], &[1, 0, 0], &[0, 1, 0]];
+    assert_eq!(rt; plane_through(rt.alloc(), &twice)?, None);
+    assert_eq!(rt;
+        flat_function_of(rt.alloc(), &twice)?,
+        Functional::new(&[1, 1, 0], -1)
+    );
+    Ok(())
+}
+
+fn facet_counts(alloc: Global, rows: &[&[i64]], more: &Point) -> Result<(usize, usize), Fault> {
+    let points = points_in(alloc, 2, rows)?;
+    if points.len() != 3 || more.dim() != 2 {
+        return Ok((0, 0));
+    }
+    let mut builder = HullBuilder::start(alloc, &points)?;
+    let before = builder.facets().len();
+    builder.insert(more)?;
+    Ok((before, builder.facets().len()))
+}
+
+#[test]
+fn grows_by_one_point(rt: HostRuntime) -> Result<(), Fail> {
+    let more = Point::new(&[2, 2]).expect(&rt, "two entries");
+    assert_eq!(rt;
+        facet_counts(rt.alloc(), &[&[-1, -1], &[2, -1], &[-1, 2]], &more)?,
+        (3, 4)
     );
     Ok(())
 }
