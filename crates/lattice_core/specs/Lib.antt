@@ -2,3 +2,4 @@ pub mod Compare
 pub mod Limits
 pub mod Divisors
 pub mod Dimensions
+pub mod Weights

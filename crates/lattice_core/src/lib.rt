@@ -12,6 +12,7 @@ mod limits;
 mod pairing;
 mod point;
 mod sizes;
+mod weights;
 
 pub use ascending::{ascending_functions, ascending_points};
 pub use divisors::{gcd, primitive};
@@ -21,3 +22,4 @@ pub use limits::size_limit;
 pub use pairing::pair;
 pub use point::Point;
 pub use sizes::size_of;
+pub use weights::WeightSystem;
