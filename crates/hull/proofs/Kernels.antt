@@ -15,7 +15,7 @@ use Rattle.elimination.proofs.Vectors.{unit, dot-unit}
 use Rattle.normal_bounds.proofs.Products.{members_fit_lem, step_products_fit_lem}
 use Rattle.lattice_core.specs.Limits.{size_limit_of}
 use Rattle.hull.specs.Kernels.{IsPrimitiveKernel, IsSmallKernel, CanReduce, IsReducedBy, IsStepped}
-use Rattle.hull.proofs.Limits.{limit_safe, limit_positive}
+use Rattle.lattice_core.proofs.SizeLimits.{limit_safe, limit_positive}
 
 -- the pivots are as small as the vectors
 pivots_small : (n : ℕ) (ks : List Member) (h : IsSmallKernel n ks) → All (λ v. weight v ≤ 2 * size_limit_of n) h.is_kernel.pivots

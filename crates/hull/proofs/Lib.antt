@@ -1,5 +1,4 @@
 pub mod Arithmetic
-pub mod Limits
 pub mod Vectors
 pub mod Reductions
 pub mod Steps

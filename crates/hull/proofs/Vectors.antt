@@ -9,7 +9,7 @@ use Rattle.normal_bounds.proofs.Sizes.{point_weight_lem}
 use Rattle.lattice_core.specs.Limits.{size_limit_of}
 use Rattle.hull.specs.Faults.{IsSized}
 use Rattle.hull.specs.Kernels.{IsPrimitiveKernel, IsSmallKernel}
-use Rattle.hull.proofs.Limits.{limit_bound}
+use Rattle.lattice_core.proofs.SizeLimits.{limit_bound}
 use Rattle.hull.proofs.Pivots.{take_more}
 use Rattle.std.proofs.lemmas.List.Elements.{All-head, All-tail}
 use Rattle.lattice_theory.specs.Vector.{entry, dot, HaveDimension}

@@ -16,7 +16,7 @@ use Rattle.facet_theory.proofs.Vertices.{vertices_by_facets_lem}
 use Rattle.normal_bounds.proofs.Numbers.{entries_fit_lem}
 use Rattle.hull.specs.Tight.{LiesWith, LiesAlone}
 use Rattle.hull.specs.Faults.{IsSized}
-use Rattle.hull.proofs.Limits.{limit_safe, limit_bound}
+use Rattle.lattice_core.proofs.SizeLimits.{limit_safe, limit_bound}
 use Rattle.hull.proofs.Pivots.{take_more}
 use Rattle.hull.proofs.FacetBounds.{facets_bounded_lem, solid_at, no_facet}
 

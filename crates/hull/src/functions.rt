@@ -8,28 +8,7 @@ ghost use Rattle.lattice_theory.specs.Size.{weight};
 ghost use Rattle.hull.specs.Hyperplanes.{StartsPositive};
 
 use arrayvec::ArrayVec;
-use lattice_core::{Functional, Point, pair};
-
-/// A number that is small enough, as an entry of a normal.
-fn narrowed(a: i128) -> i64
-    requires { nat_abs a < 2 ^ 63 }
-    ensures { result ≡ a }
-{
-    a as i64
-}
-
-/// The same entries, as those of a normal.
-fn narrowed_entries(vector: &[i128]) -> ArrayVec<i64, 6>
-    requires most { length vector.now ≤ 6 }
-    requires small { All (λ a. nat_abs a < 2 ^ 63) vector.now }
-    ensures { result.items ≡ vector.now }
-{
-    let mut entries = ArrayVec::new();
-    for entry in vector {
-        entries.push(narrowed(*entry));
-    }
-    entries
-}
+use lattice_core::{Functional, Point, narrowed, pair};
 
 /// The function with this normal that vanishes at the point.
 pub(crate) fn function_at(normal: &[i128], p: &Point) -> Functional
@@ -41,7 +20,7 @@ pub(crate) fn function_at(normal: &[i128], p: &Point) -> Functional
     ensures bound { nat_abs result.constant ≤ 2 ^ 96 }
 {
     let coordinates = p.entries();
-    let entries = narrowed_entries(normal);
+    let entries = narrowed(normal);
     let constant = -pair(entries.as_slice(), coordinates);
     match Functional::new(entries.as_slice(), constant) {
         Some(function) => function,

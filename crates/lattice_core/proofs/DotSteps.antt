@@ -39,7 +39,7 @@ bound_more y i m s a p t k h q e d =
     omega (arith, abs_sum s p t e, weight_drop y i k)
 
 -- the next sum fits
-pub sum_fits : (y : List ℤ) (i : ℕ) (s a p : ℤ) → i < length y → weight y ≤ 2 ^ 33 → nat_abs a ≤ 2 ^ 63 → p ≡ a *ℤ entry y i → nat_abs s + 2 ^ 63 * weight (drop i y) ≤ 2 ^ 63 * weight y → FitsSigned w128 (s +ℤ p)
+pub sum_fits : (y : List ℤ) (i : ℕ) (s a p : ℤ) → i < length y → weight y ≤ 2 ^ 60 → nat_abs a ≤ 2 ^ 63 → p ≡ a *ℤ entry y i → nat_abs s + 2 ^ 63 * weight (drop i y) ≤ 2 ^ 63 * weight y → FitsSigned w128 (s +ℤ p)
 sum_fits y i s a p k small h q d = fits_signed_from_abs w128 (s +ℤ p) (omega (arith, bound_more y i _ s a p (s +ℤ p) k h q refl d))
 
 -- at the end nothing is left

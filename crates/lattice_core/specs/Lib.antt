@@ -3,3 +3,4 @@ pub mod Limits
 pub mod Divisors
 pub mod Dimensions
 pub mod Weights
+pub mod Combine

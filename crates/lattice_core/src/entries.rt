@@ -1,5 +1,6 @@
 //! The entries of a point or of a normal.
-ghost use Rattle.std.specs.Prelude.{◌≡◌, ◌≤◌, length};
+ghost use Rattle.std.specs.Prelude.{◌≡◌, ◌^◌, ◌<◌, ◌≤◌, length, nat_abs};
+ghost use Rattle.std.specs.List.{All};
 
 use arrayvec::ArrayVec;
 
@@ -11,5 +12,40 @@ pub(crate) fn held(entries: &[i64]) -> ArrayVec<i64, 6>
     match ArrayVec::try_from(entries) {
         Ok(held) => held,
         Err(_) => unreachable!(),
+    }
+}
+
+/// The same entries in 64 bits, for vectors of at most 6 entries that fit them.
+pub fn narrowed(vector: &[i128]) -> ArrayVec<i64, 6>
+    requires most { length vector.now ≤ 6 }
+    requires small { All (λ a. nat_abs a < 2 ^ 63) vector.now }
+    ensures { result.items ≡ vector.now }
+{
+    let mut entries = ArrayVec::new();
+    for entry in vector {
+        entries.push(narrowed_entry(*entry));
+    }
+    entries
+}
+
+/// One entry in 64 bits.
+fn narrowed_entry(a: i128) -> i64
+    requires { nat_abs a < 2 ^ 63 }
+    ensures { result ≡ a }
+{
+    a as i64
+}
+
+#[cfg(test)]
+mod tests {
+    use super::*;
+
+    #[test]
+    fn keeps_entries_in_64_bits(rt: HostRuntime) {
+        let entries = narrowed(&[-7, 0, 9_223_372_036_854_775_807]);
+        assert_eq!(rt;
+            entries.as_slice(),
+            [-7, 0, 9_223_372_036_854_775_807].as_slice()
+        );
     }
 }

@@ -1,9 +1,11 @@
 //! Points and affine functions with numbers of fixed width, their exact values, their orders, and the faults and limits that the crates above
-//! share. It stands on `lattice_theory`, whose definitions its contracts cite, and on the kit's `arrayvec`.
+//! share. It stands on `lattice_theory`, whose definitions its contracts cite, on `elimination` and `normal_bounds`,
+//! whose bounds keep `combine` small, and on the kit's `arrayvec`.
 //! Its central theorem: within the stated sizes no operation overflows, and each answers the exact integer of the definition.
 #![tactic(auto)]
 
 mod ascending;
+mod combination;
 mod divisors;
 mod entries;
 mod faults;
@@ -15,7 +17,9 @@ mod sizes;
 mod weights;
 
 pub use ascending::{ascending_functions, ascending_points};
+pub use combination::combine;
 pub use divisors::{gcd, primitive};
+pub use entries::narrowed;
 pub use faults::{Fault, LimitName, NoMemory, Refusal};
 pub use functional::Functional;
 pub use limits::size_limit;

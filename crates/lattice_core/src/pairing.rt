@@ -12,6 +12,18 @@ pub fn pair(a: &[i64], b: &[i64]) -> i128
     ensures value { result ≡ dot a.now b.now }
     ensures bound { nat_abs result ≤ 2 ^ 96 }
 {
+    wide_pair(a, b)
+}
+
+/// The same, where the entries of the second vector may be larger.
+#[inline]
+pub(crate) fn wide_pair(a: &[i64], b: &[i64]) -> i128
+    requires same_length { length a.now ≡ length b.now }
+    requires most { length b.now ≤ 6 }
+    requires small { weight b.now ≤ 2 ^ 60 }
+    ensures value { result ≡ dot a.now b.now }
+    ensures bound { nat_abs result ≤ 2 ^ 63 * weight b.now }
+{
     let mut sum = 0_i128;
     for i in 0..a.len() {
         sum += product(a[i], b[i]);

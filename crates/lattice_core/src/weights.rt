@@ -17,10 +17,22 @@ mod tests {
     #[test]
     fn compares_degrees_and_weights(rt: HostRuntime) -> Result<(), Fail> {
         let alloc = rt.alloc();
-        let quintic = WeightSystem { degree: 5, weights: vec![in alloc; 1, 1, 1, 1, 1]? };
-        let other = WeightSystem { degree: 6, weights: vec![in alloc; 1, 1, 1, 1, 2]? };
+        let quintic = WeightSystem {
+            degree: 5,
+            weights: vec![in alloc; 1, 1, 1, 1, 1]?,
+        };
+        let other = WeightSystem {
+            degree: 6,
+            weights: vec![in alloc; 1, 1, 1, 1, 2]?,
+        };
         assert!(rt; quintic != other);
-        assert_eq!(rt; quintic, WeightSystem { degree: 5, weights: vec![in alloc; 1, 1, 1, 1, 1]? });
+        assert_eq!(rt;
+            quintic,
+            WeightSystem {
+                degree: 5,
+                weights: vec![in alloc; 1, 1, 1, 1, 1]?
+            }
+        );
         Ok(())
     }
 }

@@ -97,4 +97,6 @@ pub fn count_to(
 }
 
 #[cfg(test)]
+mod agreement;
+#[cfg(test)]
 mod tests;

@@ -22,7 +22,7 @@ fn points_of<const N: usize>(alloc: Global, entries: &[[i64; N]]) -> Result<Vec<
 }
 
 /// Whether there is a point, and all have as many coordinates as the first.
-fn have_one_dimension(points: &[Point]) -> bool
+pub(super) fn have_one_dimension(points: &[Point]) -> bool
     ensures some { IsTrue result → 0 < length points.now }
     ensures dimension { IsTrue result → HaveDimension (dimension_of points.now) points.now }
 {

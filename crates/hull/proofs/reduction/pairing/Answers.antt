@@ -20,7 +20,7 @@ first_small c = c.requires.entries c.loop-i.i (pos 0) (omega arith)
 pub overflow_add-sum : goal.overflow_add-sum
 overflow_add-sum c =
     let product_fits : SFits w128 c.product-sum.result = search rules in
-    simp to_z-of_z (sum_fits c.args.v.now c.loop-i.i _ _ _ (omega arith) c.requires.small (first_small c) (product_is c) c.loop-i.invariant.bound)
+    simp to_z-of_z (sum_fits c.args.v.now c.loop-i.i _ _ _ (omega arith) (omega arith) (first_small c) (product_is c) c.loop-i.invariant.bound)
 
 pub loop-i-preserved : goal.loop-i-preserved
 loop-i-preserved c =

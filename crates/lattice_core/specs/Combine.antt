@@ -1,0 +1,55 @@
+-- The function through a point that two functions combine to. This project's own.
+use Rattle.std.specs.Prelude.{◌≡◌, ◌⊎◌, ℕ, ◌*◌, ◌^◌, ◌-◌, ◌<◌, ◌≤◌, List, length, ℤ, pos, ◌+ℤ◌, ◌*ℤ◌, ◌<ℤ◌, nat_abs}
+use Rattle.lattice_theory.specs.Vector.{entry, IsPrimitive, HaveDimension}
+use Rattle.lattice_theory.specs.Affine.{Affine, value}
+use Rattle.lattice_theory.specs.Size.{size}
+use Rattle.normal_bounds.specs.Bounds.{EntriesWithin, IsFixedBy}
+use Rattle.lattice_core.specs.Limits.{size_limit_of}
+
+-- h is a positive rational combination of f and g: a h = b f + c g with positive integers a, b and c
+pub record IsPositiveCombination (f g h : Affine) : Type 0 where
+  pub whole : ℕ
+  pub left : ℕ
+  pub right : ℕ
+  pub positive : (0 < whole) × (0 < left) × (0 < right)
+  pub normals : (i : ℕ) → pos whole *ℤ entry h.normal i ≡ pos left *ℤ entry f.normal i +ℤ pos right *ℤ entry g.normal i
+  pub constants : pos whole *ℤ h.constant ≡ pos left *ℤ f.constant +ℤ pos right *ℤ g.constant
+
+-- h is the combination of f and g at p: it vanishes there, and the greatest common divisor of its normal is 1
+pub record IsCombinationAt (f g : Affine) (p : List ℤ) (h : Affine) : Type 0 where
+  pub dimension : length h.normal ≡ length p
+  pub primitive : IsPrimitive h.normal
+  pub vanishes : value h p ≡ pos 0
+  pub combination : IsPositiveCombination f g h
+
+-- one is positive and the other is negative
+abbrev pub AreOpposite : ℤ → ℤ → Type 0
+AreOpposite a b = ((pos 0 <ℤ a) × (b <ℤ pos 0)) ⊎ ((a <ℤ pos 0) × (pos 0 <ℤ b))
+
+-- twice the size limit of points with n coordinates
+abbrev pub twice_limit : ℕ → ℕ
+twice_limit n = 2 * size_limit_of n
+
+-- a function and its value at the point are as small as those of functions that points within the size limit fix
+pub record IsSmallAt (p : List ℤ) (f : Affine) : Type 0 where
+  pub dimension : length f.normal ≡ length p
+  pub entries : EntriesWithin (twice_limit (length p) ^ (length p - 1)) f.normal
+  pub at_point : nat_abs (value f p) ≤ twice_limit (length p) ^ length p
+
+-- n points within the size limit fix h: it vanishes at them, and they lie on no other hyperplane
+pub record IsFixedWithinLimit (n : ℕ) (h : Affine) : Type 0 where
+  pub points : List (List ℤ)
+  pub count : length points ≡ n
+  pub dimension : HaveDimension n points
+  pub small : size n points ≤ size_limit_of n
+  pub fixed : IsFixedBy n points h
+
+-- f and g have a combination at p, and n points within the size limit fix it
+pub record HasFixedCombination (f g : Affine) (p : List ℤ) : Type 0 where
+  pub function : Affine
+  pub combination : IsCombinationAt f g p function
+  pub fixed : IsFixedWithinLimit (length p) function
+
+-- s is the sum of the two normals, each times the absolute value of the other function at the point
+abbrev pub IsCrossSum : Affine → Affine → List ℤ → List ℤ → Type 0
+IsCrossSum f g p s = (i : ℕ) → entry s i ≡ pos (nat_abs (value g p)) *ℤ entry f.normal i +ℤ pos (nat_abs (value f p)) *ℤ entry g.normal i
