@@ -221,4 +221,21 @@ mod tests {
         }
         Ok(())
     }
+
+    #[test]
+    fn reads_many_words(rt: HostRuntime) -> Result<(), Fail> {
+        let alloc = rt.alloc();
+        let mut words = Vec::new(alloc);
+        words.push(String::from_str(alloc, "cws")?)?;
+        for _ in 0..131_072 {
+            words.push(String::from_str(alloc, "-r")?)?;
+        }
+        assert!(rt; words.len() < 1_000_000);
+        let fault = WordFault {
+            index: 131_074,
+            kind: WordKind::Missing,
+        };
+        assert_eq!(rt; read_words(&words), Err(fault));
+        Ok(())
+    }
 }
