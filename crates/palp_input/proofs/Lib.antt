@@ -1,0 +1,13 @@
+pub mod Digits
+pub mod TokenRuns
+pub mod ReadSoFar
+pub mod WeightLines
+pub mod Starts
+pub mod Takes
+pub mod Alike
+pub mod SettledLines
+pub mod SettledItems
+pub mod NextAnswers
+pub mod Readings
+pub mod ItemForms
+pub mod FaultPlaces

@@ -1,0 +1,313 @@
+-- What a call of a reader answers, from what its steps answer.
+use Rattle.std.proofs.Common.{◌≡◌, ◌≢◌, ℕ, ◌+◌, ◌-◌, ◌<◌, ◌≤◌, ◌⊎◌, inl, inr, Bool, true, false, cond, List, [], ◌++◌, length, take, drop, Option, Some, None, Result, Ok, Err, refl, sym, ap, subst, ◌∙◌, arith, length-append, length-drop, append_assoc}
+use Rattle.std.specs.Prelude.{nat_le, slice_index, IfSome}
+use Rattle.std.specs.Io.KnownBytes.{IsAtEnd}
+use Rattle.std.proofs.lemmas.List.{append-nil, take-append-le}
+use Rattle.std.proofs.lemmas.Bool.Decides.{nat_tests}
+use Rattle.palp_io.specs.Source.{Passes}
+use Rattle.palp_io.proofs.SourceLemmas.{Passes-none, Passes-told}
+use Rattle.palp_input.specs.Pieces.{line_feed}
+use Rattle.palp_input.specs.Grammar.{IsLineEnd, Listed, listed, Next, Nothing, Given, Faulty, Known, Beyond, next_within, ends_within, next_of, most_bytes, line_feeds, column_behind, text_fault}
+use Rattle.palp_input.specs.Reading.{ReaderState, IsReader, IsNextItem, GivesItem, NextMeans, AnswerMeans, IsHeldItem, HeldMeans, HasEnded, TakeAllMeans, LastMeans}
+use Rattle.palp_input.specs.declared.fault.ItemFault.{ItemFault}
+use Rattle.palp_input.specs.declared.fault.TextFault.{TextFault}
+use Rattle.palp_input.specs.declared.fault.NextFault.{NextFault}
+use Rattle.palp_input.specs.declared.fault.NextFault.TheVariants.{Text, TooLong, Read, NoMemory}
+use Rattle.palp_input.specs.declared.item.Item.{Item}
+use Rattle.palp_input.proofs.SettledItems.{EndsBefore, item_before, fault_before, next_settled}
+use Rattle.palp_input.proofs.FaultPlaces.{fault_place}
+
+-- the first item of a text is known where it ends early enough
+pub known_item : (room : ℕ) (text : List ℕ) (item : Listed) (end : ℕ) → next_of text ≡ Given item end → end ≤ room
+    → next_within room text ≡ Known (Given item end)
+known_item room text item end e le = cases (nat_le (length text) room)
+  where
+    early : nat_le end room ≡ true
+    early = grind (arith, nat_tests, le)
+
+    cases : (b : Bool) → cond b (Known (next_of text)) (ends_within room (next_of text)) ≡ Known (Given item end)
+    cases true = ap Known e
+    cases false = ap (ends_within room) e ∙ ap (λ (b : Bool). cond b (Known (Given item end)) Beyond) early
+
+pub known_fault : (room : ℕ) (text : List ℕ) (fault : ItemFault) → next_of text ≡ Faulty fault → fault.end ≤ room
+    → next_within room text ≡ Known (Faulty fault)
+known_fault room text fault e le = cases (nat_le (length text) room)
+  where
+    early : nat_le fault.end room ≡ true
+    early = grind (arith, nat_tests, le)
+
+    cases : (b : Bool) → cond b (Known (next_of text)) (ends_within room (next_of text)) ≡ Known (Faulty fault)
+    cases true = ap Known e
+    cases false = ap (ends_within room) e ∙ ap (λ (b : Bool). cond b (Known (Faulty fault)) Beyond) early
+
+-- a text that isn't too long is known, and another is by the end of its first item
+pub known_text : (room : ℕ) (text : List ℕ) → length text ≤ room → next_within room text ≡ Known (next_of text)
+known_text room text le =
+    let short : nat_le (length text) room ≡ true = grind (arith, nat_tests, le) in
+    ap (λ (b : Bool). cond b (Known (next_of text)) (ends_within room (next_of text))) short
+
+pub long_text : (room : ℕ) (text : List ℕ) → room < length text → next_within room text ≡ ends_within room (next_of text)
+long_text room text lt =
+    let long : nat_le (length text) room ≡ false = grind (arith, nat_tests, lt) in
+    ap (λ (b : Bool). cond b (Known (next_of text)) (ends_within room (next_of text))) long
+
+-- what ends in the beginning of a text is the first item of the text
+pub settled : (first more : List ℕ) → EndsBefore (length first) (next_of first) → next_of (first ++ more) ≡ next_of first
+settled first more h =
+    let same = append-nil first in
+    next_settled first [] more (subst (λ (text : List ℕ). EndsBefore (length first) (next_of text)) (sym same) h) ∙ ap next_of same
+
+-- nothing that ends early enough stands in a beginning that is longer: nor does it in the text
+pub beyond_settled : (room : ℕ) (first more : List ℕ) → room < length first → ends_within room (next_of first) ≡ Beyond
+    → ends_within room (next_of (first ++ more)) ≡ Beyond
+beyond_settled room first more lt h = cases (next_of (first ++ more)) refl
+  where
+    same : EndsBefore (length first) (next_of (first ++ more)) → next_of first ≡ next_of (first ++ more)
+    same ends = ap next_of (sym (append-nil first)) ∙ next_settled first more [] ends
+
+    item_case : (item : Listed) (end : ℕ) (b : Bool) → nat_le end room ≡ b → next_of (first ++ more) ≡ Given item end
+        → cond b (Known (Given item end)) Beyond ≡ Beyond
+    item_case item end false t e = refl
+    item_case item end true t e =
+        let early : end < length first = grind (arith, nat_tests, t, lt) in
+        let here = same (subst (λ (n : Next). EndsBefore (length first) n) (sym e) (item_before (length first) item end early)) ∙ e in
+        sym (ap (λ (b : Bool). cond b (Known (Given item end)) Beyond) t) ∙ sym (ap (ends_within room) here) ∙ h
+
+    fault_case : (fault : ItemFault) (b : Bool) → nat_le fault.end room ≡ b → next_of (first ++ more) ≡ Faulty fault
+        → cond b (Known (Faulty fault)) Beyond ≡ Beyond
+    fault_case fault false t e = refl
+    fault_case fault true t e =
+        let early : fault.end < length first = grind (arith, nat_tests, t, lt) in
+        let here = same (subst (λ (n : Next). EndsBefore (length first) n) (sym e) (fault_before (length first) fault early)) ∙ e in
+        sym (ap (λ (b : Bool). cond b (Known (Faulty fault)) Beyond) t) ∙ sym (ap (ends_within room) here) ∙ h
+
+    cases : (next : Next) → next_of (first ++ more) ≡ next → ends_within room next ≡ Beyond
+    cases Nothing e = refl
+    cases (Given item end) e = item_case item end (nat_le end room) refl e
+    cases (Faulty fault) e = fault_case fault (nat_le fault.end room) refl e
+
+-- what a source that tells its bytes had left: the bytes taken, and more
+pub record MoreLeft (left bytes : List ℕ) (left_now : Option (List ℕ)) : Type 0 where
+  pub more : List ℕ
+  pub is : left ≡ bytes ++ more
+  pub told : left_now ≡ Some more
+
+pub more_left : (left taken : List ℕ) (left_now : Option (List ℕ)) (taken_now bytes : List ℕ) → Passes (Some left) taken left_now taken_now bytes
+    → MoreLeft left bytes left_now
+more_left left taken left_now taken_now bytes passes =
+    let next = Passes-told left taken left_now taken_now bytes passes in record { more = next.0; is = next.2; told = next.1 }
+
+nothing_more : (more : List ℕ) (left : Option (List ℕ)) → left ≡ Some more → IsAtEnd left → more ≡ []
+nothing_more more (Some other) e h = let same : other ≡ more = cc in sym same ∙ h
+nothing_more more None e h = cc
+
+-- where the taking stopped: the source has ended, or the bytes are one more than a text may have
+abbrev pub Stopped : ℕ → List ℕ → Option (List ℕ) → Bool → Type 0
+Stopped bytes held left ended = HasEnded left ended ⊎ (bytes + length held ≡ most_bytes + 1)
+
+-- the rest of the text, where so many of its bytes are held
+pub rest_is : (held bytes left more : List ℕ) → left ≡ bytes ++ more → held ++ left ≡ (held ++ bytes) ++ more
+rest_is held bytes left more e = ap (λ (xs : List ℕ). held ++ xs) e ∙ sym (append_assoc held bytes more)
+
+-- an item or a fault that ends early enough in the bytes held is the first one of the rest
+next_is : (passed : ℕ) (held more : List ℕ) (left : Option (List ℕ)) (ended : Bool) (next : Next) → left ≡ Some more → next_of held ≡ next
+    → Stopped passed held left ended → (passed + length held ≡ most_bytes + 1 → EndsBefore (length held) next) → next_of (held ++ more) ≡ next
+next_is passed held more left ended next told e (inl h) early =
+    ap (λ (xs : List ℕ). next_of (held ++ xs)) (nothing_more more left told h.nothing_left) ∙ ap next_of (append-nil held) ∙ e
+next_is passed held more left ended next told e (inr all) early =
+    settled held more (subst (λ (n : Next). EndsBefore (length held) n) (sym e) (early all)) ∙ e
+
+earlier : (passed end size : ℕ) → passed + end ≤ most_bytes → passed + size ≡ most_bytes + 1 → end < size
+earlier passed end size le all = omega arith
+
+module _ (before : ReaderState) (bytes : List ℕ) (left_now : Option (List ℕ)) (ended : Bool)
+    (stopped : Stopped before.bytes (before.held ++ bytes) left_now ended) where
+  -- the item
+  pub item_next : (item : Listed) (end : ℕ) → before.bytes + end ≤ most_bytes → next_of (before.held ++ bytes) ≡ Given item end
+      → (left : Option (List ℕ)) (taken taken_now : List ℕ) → Passes left taken left_now taken_now bytes → IsNextItem before left (Known (Given item end))
+  item_next item end le e None taken taken_now passes = tt
+  item_next item end le e (Some left) taken taken_now passes =
+      let m = more_left left taken left_now taken_now bytes passes in
+      let early : before.bytes + length (before.held ++ bytes) ≡ most_bytes + 1 → EndsBefore (length (before.held ++ bytes)) (Given item end) =
+      λ all. item_before (length (before.held ++ bytes)) item end (earlier before.bytes end (length (before.held ++ bytes)) le all) in
+      known_item (most_bytes - before.bytes) (before.held ++ left) item end
+      (ap next_of (rest_is before.held bytes left m.more m.is)
+      ∙ next_is before.bytes (before.held ++ bytes) m.more left_now ended (Given item end) m.told e stopped early)
+      (omega (arith, le))
+
+  pub fault_next : (fault : ItemFault) → before.bytes + fault.end ≤ most_bytes → next_of (before.held ++ bytes) ≡ Faulty fault
+      → (left : Option (List ℕ)) (taken taken_now : List ℕ) → Passes left taken left_now taken_now bytes → IsNextItem before left (Known (Faulty fault))
+  fault_next fault le e None taken taken_now passes = tt
+  fault_next fault le e (Some left) taken taken_now passes =
+      let m = more_left left taken left_now taken_now bytes passes in
+      let early : before.bytes + length (before.held ++ bytes) ≡ most_bytes + 1 → EndsBefore (length (before.held ++ bytes)) (Faulty fault) =
+      λ all. fault_before (length (before.held ++ bytes)) fault (earlier before.bytes fault.end (length (before.held ++ bytes)) le all) in
+      known_fault (most_bytes - before.bytes) (before.held ++ left) fault
+      (ap next_of (rest_is before.held bytes left m.more m.is)
+      ∙ next_is before.bytes (before.held ++ bytes) m.more left_now ended (Faulty fault) m.told e stopped early)
+      (omega (arith, le))
+
+-- what a reader holds
+pub held_most : (position bytes lines : ℕ) (items : List ℕ) (live : Bool) (now : ReaderState) → IsReader position bytes lines items
+    → record { bytes = bytes; lines = lines; held = drop position items; live = live } ≡ now
+    → (now.bytes + length now.held ≤ most_bytes + 1) × (now.bytes ≤ most_bytes)
+held_most position bytes lines items live now h e =
+    subst (λ (s : ReaderState). (s.bytes + length s.held ≤ most_bytes + 1) × (s.bytes ≤ most_bytes)) e
+    (omega (arith, h.most, length-drop position items), h.passed_most)
+
+-- an item of the bytes held and taken
+gives_item : (before now : ReaderState) (bytes held : List ℕ) (left left_now : Option (List ℕ)) (ended : Bool) (item : Item) (end : ℕ)
+    → before.held ++ bytes ≡ held → 1 ≤ end → end ≤ length held → before.bytes + end ≤ most_bytes → next_of held ≡ Given (listed item) end
+    → now ≡ record { bytes = before.bytes + end; lines = before.lines + line_feeds (take end held); held = drop end held; live = true }
+    → IsNextItem before left (Known (Given (listed item) end)) → (slice_index held (end - 1) ≢ line_feed → HasEnded left_now ended)
+    → GivesItem before now bytes left left_now ended item
+gives_item before now bytes held left left_now ended item end e some within most first parts next unless = record {
+  end = end;
+  some = some;
+  within = subst (λ (xs : List ℕ). end ≤ length xs) (sym e) within;
+  most = most;
+  is_first = ap next_of e ∙ first;
+  parts = parts ∙ ap (λ (xs : List ℕ). record { bytes = before.bytes + end; lines = before.lines + line_feeds (take end xs); held = drop end xs; live = true }) (sym e);
+  is_next = next;
+  ended_unless = λ no_end. unless (λ line_end. no_end (ap (λ (xs : List ℕ). slice_index xs (end - 1)) e ∙ line_end));
+}
+
+-- an item behind which a byte is held
+held_next : (before : ReaderState) (item : Listed) (end : ℕ) → end < length before.held → before.bytes + end ≤ most_bytes
+    → next_of before.held ≡ Given item end → (left : Option (List ℕ)) → IsNextItem before left (Known (Given item end))
+held_next before item end inside most first None = tt
+held_next before item end inside most first (Some left) =
+    known_item (most_bytes - before.bytes) (before.held ++ left) item end
+    (settled before.held left (subst (λ (n : Next). EndsBefore (length before.held) n) (sym first) (item_before (length before.held) item end inside)) ∙ first)
+    (omega (arith, most))
+
+ends_line : (held : List ℕ) (end : ℕ) → IsLineEnd held end → end < length held → slice_index held (end - 1) ≡ line_feed
+ends_line held end (inl e) inside = absurd (omega (arith, e, inside))
+ends_line held end (inr e) inside = e
+
+nothing_taken : (a b c : ℕ) → a + b ≤ c → a + b + 0 ≤ c
+nothing_taken a b c h = omega arith
+
+module _ (before now : ReaderState) (left : Option (List ℕ)) (taken : List ℕ) (ended : Bool) (faults : ℕ)
+    (most : before.bytes + length before.held ≤ most_bytes + 1) where
+  pub held_answer : (item : Item) → IsHeldItem (record before { live = false }) now item → NextMeans (Ok (Some item)) before now left taken left taken ended faults faults
+  held_answer item h = record {
+    bytes = [];
+    passes = Passes-none left taken;
+    most = nothing_taken before.bytes (length before.held) (most_bytes + 1) most;
+    answer = gives_item before now [] before.held left left ended item h.end (append-nil before.held) h.some (omega (arith, h.inside)) h.within h.is_next h.passed
+        (held_next before (listed item) h.end h.inside h.within h.is_next left)
+        (λ no_end. absurd (no_end (ends_line before.held h.end h.line_ends h.inside)));
+  }
+
+  -- no memory for the item
+  pub held_fault : (fault : NextFault) → HeldMeans (Err fault) (record before { live = false }) now → NextMeans (Err fault) before now left taken left taken ended faults faults
+  held_fault (Text fault) h = absurd h
+  held_fault TooLong h = absurd h
+  held_fault Read h = absurd h
+  held_fault NoMemory h = record {
+    bytes = [];
+    passes = Passes-none left taken;
+    most = nothing_taken before.bytes (length before.held) (most_bytes + 1) most;
+    answer = ap (λ (s : ReaderState). s.live) h;
+  }
+
+-- the text up to a fault
+same_place : (lines : ℕ) (held bytes left more : List ℕ) (fault : ItemFault) → left ≡ bytes ++ more → fault.at ≤ length (held ++ bytes)
+    → text_fault lines (held ++ bytes) fault ≡ text_fault lines (held ++ left) fault
+same_place lines held bytes left more fault e le =
+    let front : take fault.at (held ++ left) ≡ take fault.at (held ++ bytes) =
+    ap (take fault.at) (rest_is held bytes left more e) ∙ take-append-le fault.at (held ++ bytes) more le in
+    ap (λ (xs : List ℕ). record { kind = fault.kind; line = lines + line_feeds xs + 1; column = column_behind 1 xs }) (sym front)
+
+room_less : (passed size : ℕ) → passed ≤ most_bytes → most_bytes < passed + size → most_bytes - passed < size
+room_less passed size le h = omega arith
+
+module _ (before : ReaderState) (bytes : List ℕ) (left : Option (List ℕ)) (taken : List ℕ) (left_now : Option (List ℕ)) (taken_now : List ℕ) (ended : Bool)
+    (faults_before faults_now : ℕ) (passed_most : before.bytes ≤ most_bytes) (passes : Passes left taken left_now taken_now bytes)
+    (stopped : Stopped before.bytes (before.held ++ bytes) left_now ended) where
+  took : ReaderState
+  took = record { bytes = before.bytes; lines = before.lines; held = before.held ++ bytes; live = false }
+
+  has_ended : before.bytes + length (before.held ++ bytes) ≤ most_bytes → HasEnded left_now ended
+  has_ended le = elim stopped [ inl h ↦ h | inr all ↦ absurd (omega (arith, le, all)) ]
+
+  last_ended : (end : ℕ) → before.bytes + end ≤ most_bytes → IsLineEnd (before.held ++ bytes) end
+      → slice_index (before.held ++ bytes) (end - 1) ≢ line_feed → HasEnded left_now ended
+  last_ended end le (inl all) no_end = has_ended (subst (λ (n : ℕ). before.bytes + n ≤ most_bytes) all le)
+  last_ended end le (inr line) no_end = absurd (no_end line)
+
+  end_next : before.bytes + length (before.held ++ bytes) ≤ most_bytes → next_of (before.held ++ bytes) ≡ Nothing
+      → (l : Option (List ℕ)) → Passes l taken left_now taken_now bytes → IsNextItem before l (Known Nothing)
+  end_next le e None p = tt
+  end_next le e (Some xs) p =
+      let m = more_left xs taken left_now taken_now bytes p in
+      let all : before.held ++ xs ≡ before.held ++ bytes = rest_is before.held bytes xs m.more m.is
+      ∙ ap (λ (ys : List ℕ). (before.held ++ bytes) ++ ys) (nothing_more m.more left_now m.told (has_ended le).nothing_left) ∙ append-nil (before.held ++ bytes) in
+      ap (next_within (most_bytes - before.bytes)) all ∙ known_text (most_bytes - before.bytes) (before.held ++ bytes) (omega (arith, le)) ∙ ap Known e
+
+  fault_is : (fault : TextFault) (item_fault : ItemFault) → next_of (before.held ++ bytes) ≡ Faulty item_fault
+      → fault ≡ text_fault before.lines (before.held ++ bytes) item_fault
+      → (l : Option (List ℕ)) → Passes l taken left_now taken_now bytes → IfSome l (λ xs. fault ≡ text_fault before.lines (before.held ++ xs) item_fault)
+  fault_is fault item_fault e place None p = tt
+  fault_is fault item_fault e place (Some xs) p =
+      let m = more_left xs taken left_now taken_now bytes p in
+      place ∙ same_place before.lines before.held bytes xs m.more item_fault m.is (fault_place (before.held ++ bytes) item_fault e)
+
+  beyond_next : most_bytes < before.bytes + length (before.held ++ bytes) → ends_within (most_bytes - before.bytes) (next_of (before.held ++ bytes)) ≡ Beyond
+      → (l : Option (List ℕ)) → Passes l taken left_now taken_now bytes → IsNextItem before l Beyond
+  beyond_next lt e None p = tt
+  beyond_next lt e (Some xs) p =
+      let m = more_left xs taken left_now taken_now bytes p in
+      let room = most_bytes - before.bytes in
+      let less = room_less before.bytes (length (before.held ++ bytes)) passed_most lt in
+      ap (next_within room) (rest_is before.held bytes xs m.more m.is)
+      ∙ long_text room ((before.held ++ bytes) ++ m.more) (omega (arith, less, length-append (before.held ++ bytes) m.more))
+      ∙ beyond_settled room (before.held ++ bytes) m.more less e
+
+  last_means : (result : Result (Option Item) NextFault) (now : ReaderState) → LastMeans result took now
+      → AnswerMeans result before now bytes left left_now ended faults_before faults_now
+  unfolding took
+  last_means (Ok (Some item)) now h =
+      gives_item before now bytes (before.held ++ bytes) left left_now ended item h.end refl h.some h.most h.within h.is_next h.passed
+      (item_next before bytes left_now ended stopped (listed item) h.end h.within h.is_next left taken taken_now passes)
+      (last_ended h.end h.within h.line_ends)
+  last_means (Ok None) now h = record {
+    is_next = end_next h.within h.is_next left passes;
+    has_ended = has_ended h.within;
+    stops = ap (λ (s : ReaderState). s.live) h.stays;
+  }
+  last_means (Err (Text fault)) now h = record {
+    item_fault = h.item_fault;
+    is_next = fault_next before bytes left_now ended stopped h.item_fault h.within h.is_next left taken taken_now passes;
+    place = fault_is fault h.item_fault h.is_next h.place left passes;
+    stops = ap (λ (s : ReaderState). s.live) h.stays;
+  }
+  last_means (Err TooLong) now h = record {
+    is_next = beyond_next h.longer h.beyond left passes;
+    stops = ap (λ (s : ReaderState). s.live) h.stays;
+  }
+  last_means (Err Read) now h = absurd h
+  last_means (Err NoMemory) now h = ap (λ (s : ReaderState). s.live) h
+
+stopped_is : (before taken : ReaderState) (bytes : List ℕ) (left_now : Option (List ℕ)) (ended : Bool)
+    → taken ≡ record { bytes = before.bytes; lines = before.lines; held = before.held ++ bytes; live = false }
+    → HasEnded left_now ended ⊎ (taken.bytes + length taken.held ≡ most_bytes + 1) → Stopped before.bytes (before.held ++ bytes) left_now ended
+stopped_is before taken bytes left_now ended all h =
+    subst (λ (s : ReaderState). HasEnded left_now ended ⊎ (s.bytes + length s.held ≡ most_bytes + 1)) all h
+
+-- the answer after all was taken
+pub last_answer : (before begun held now : ReaderState) (result : Result (Option Item) NextFault) (left : Option (List ℕ)) (taken : List ℕ) (left_now : Option (List ℕ))
+    (taken_now : List ℕ) (ended : Bool) (faults_before faults_now : ℕ) → before.bytes ≤ most_bytes → begun ≡ record before { live = false }
+    → TakeAllMeans (Ok tt) begun held left taken left_now taken_now ended faults_before faults_now
+    → LastMeans result held now → NextMeans result before now left taken left_now taken_now ended faults_before faults_now
+unfolding took
+last_answer before begun held now result left taken left_now taken_now ended faults_before faults_now passed_most b t h =
+    let all = t.stop.0 ∙ ap (λ (s : ReaderState). record s { held = s.held ++ t.bytes }) b in
+    record {
+      bytes = t.bytes;
+      passes = t.passes;
+      most = subst (λ (s : ReaderState). s.bytes + length s.held + length t.bytes ≤ most_bytes + 1) b t.most;
+      answer = last_means before t.bytes left taken left_now taken_now ended faults_before faults_now passed_most t.passes
+          (stopped_is before held t.bytes left_now ended all t.stop.1) result now (subst (λ (s : ReaderState). LastMeans result s now) all h);
+    }

@@ -1,0 +1,10 @@
+pub use Rattle.lattice_core.specs.Weights
+pub use Rattle.palp_io.specs.Source
+pub use Rattle.palp_io.specs.Faults
+pub mod Pieces
+pub mod Numerals
+pub mod Lines
+pub mod Systems
+pub mod Grammar
+pub mod Reading
+pub mod Laws

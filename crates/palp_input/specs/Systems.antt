@@ -1,0 +1,88 @@
+-- The weight systems of a line of numbers. This project's own.
+use Rattle.std.specs.Prelude.{◌≡◌, ℕ, ◌+◌, ◌-◌, ◌≤◌, Bool, List, [], ◌∷◌, map, length, drop, slice_range, zero, suc, Option, Some, None, if◌then◌else◌, ◌==◌, nat_le}
+use Rattle.std.specs.List.{list_all}
+use Rattle.lattice_core.specs.Weights.{Weighted}
+use Rattle.palp_input.specs.declared.lines.LineNumber.{LineNumber}
+use Rattle.palp_input.specs.declared.systems.PlacedSystem.{PlacedSystem as KeptSystem}
+use Rattle.palp_input.specs.declared.systems.Systems.{Systems}
+use Rattle.palp_input.specs.declared.systems.Systems.TheVariants.{Summed as KeptSummed, WrongSum as KeptWrongSum}
+
+-- the numbers in front that are weights, and the numbers behind them
+pub record Taken : Type 0 where
+  pub weights : List LineNumber
+  pub rest : List LineNumber
+
+abbrev pub before_taken : LineNumber → Option Taken → Option Taken
+before_taken number None = None
+before_taken number (Some taken) = Some (record { weights = number ∷ taken.weights; rest = taken.rest })
+
+-- weights until their sum reaches the degree, then all zeros that follow directly; none where a
+-- weight makes the sum exceed the degree, or the numbers end before it is reached
+abbrev pub take_weights : ℕ → List LineNumber → Option Taken
+take_weights degree [] = if degree == 0 then Some (record { weights = []; rest = [] }) else None
+take_weights degree (number ∷ numbers) =
+    if nat_le number.value degree then before_taken number (take_weights (degree - number.value) numbers)
+    else (if degree == 0 then Some (record { weights = []; rest = number ∷ numbers }) else None)
+
+-- a system with the places of its numbers
+pub record PlacedSystem : Type 0 where
+  pub degree : LineNumber
+  pub weights : List LineNumber
+
+-- the systems, or the place of the degree of the first one whose sum is wrong
+pub data SystemsRead : Type 0 where
+  Summed : List PlacedSystem → SystemsRead
+  WrongSum : ℕ → SystemsRead
+
+abbrev pub before_systems : PlacedSystem → SystemsRead → SystemsRead
+before_systems system (Summed systems) = Summed (system ∷ systems)
+before_systems system (WrongSum at) = WrongSum at
+
+-- a degree and its weights, and then the systems behind them: at most as many as there are numbers
+abbrev pub systems_read : ℕ → List LineNumber → SystemsRead
+systems_read most [] = Summed []
+systems_read zero (degree ∷ numbers) = Summed []
+systems_read (suc most) (degree ∷ numbers) = elim (take_weights degree.value numbers) [
+  | None ↦ WrongSum degree.at
+  | Some taken ↦ before_systems (record { degree = degree; weights = taken.weights }) (systems_read most taken.rest)
+]
+
+-- the degree of the first system with another number of weights
+abbrev pub other_length : ℕ → List PlacedSystem → Option ℕ
+other_length count [] = None
+other_length count (system ∷ systems) =
+    if length system.weights == count then other_length count systems else Some system.degree.at
+
+-- the weight at a place, counted from 0
+abbrev pub weight_at : ℕ → List LineNumber → ℕ
+weight_at place [] = 0
+weight_at zero (number ∷ numbers) = number.value
+weight_at (suc place) (number ∷ numbers) = weight_at place numbers
+
+-- the weight at a place is 0 in every system
+abbrev pub is_zero_column : ℕ → List PlacedSystem → Bool
+is_zero_column place systems = list_all (λ (s : PlacedSystem). weight_at place s.weights == 0) systems
+
+-- the first of the weights, from a place on, that is 0 at the same place in every system
+abbrev pub zero_column : ℕ → List LineNumber → List PlacedSystem → Option ℕ
+zero_column place [] systems = None
+zero_column place (number ∷ numbers) systems =
+    if is_zero_column place systems then Some number.at
+    else zero_column (place + 1) numbers systems
+
+abbrev pub weighted_of : PlacedSystem → Weighted
+weighted_of system = record { degree = system.degree.value; weights = map (λ (n : LineNumber). n.value) system.weights }
+
+-- what the code keeps, as contracts see it
+abbrev pub placed_of : KeptSystem → PlacedSystem
+placed_of system = record { degree = system.degree; weights = system.weights.items }
+
+abbrev pub systems_read_of : Systems → SystemsRead
+systems_read_of (KeptSummed systems) = Summed (map placed_of systems.items)
+systems_read_of (KeptWrongSum at) = WrongSum at
+
+-- the weights from a place up to another are taken, and the numbers from there on are the rest
+pub record TakesUpTo (numbers : List LineNumber) (from degree end : ℕ) : Type 0 where
+  pub least : from ≤ end
+  pub most : end ≤ length numbers
+  pub taken : take_weights degree (drop from numbers) ≡ Some (record { weights = slice_range numbers from end; rest = drop end numbers })
