@@ -1,0 +1,12 @@
+pub mod Weighing
+pub mod Beginnings
+pub mod Completing
+pub mod Reaching
+pub mod Writing
+pub mod Advancing
+pub mod Sublists
+pub mod Grids
+pub mod Integral
+pub mod Positions
+pub mod Walks
+pub mod Collecting
