@@ -1,0 +1,96 @@
+-- Systems that pass the computing tests are well formed and within the limits.
+use Rattle.std.proofs.Common.{◌≡◌, ℕ, zero, suc, ◌<◌, ◌≤◌, Bool, true, false, ◌&&◌, ◌==◌, nat_lt, List, [], ◌∷◌, length, refl, slice_index_or, zero-lt-suc, arith}
+use Rattle.std.proofs.lemmas.Bool.{false≢true, eqb-true}
+use borrow.Author.Tests.{ltb-true}
+use Rattle.std.proofs.Math.Nat.{mul-le-mul}
+use Rattle.elimination.proofs.Members.{Each, empty, more, all_from_each}
+use Rattle.lattice_core.specs.Weights.{Weighted, total, IsSummed, AreWellFormed, AreWithinLimits}
+use Rattle.weight_frame.specs.Plain.{are_positive, is_summed, is_plain}
+
+-- both tests
+first_test : (a b : Bool) → (a && b) ≡ true → a ≡ true
+first_test true b e = refl
+first_test false b e = absurd (false≢true e)
+
+second_test : (a b : Bool) → (a && b) ≡ true → b ≡ true
+second_test true b e = e
+second_test false b e = absurd (false≢true e)
+
+-- a summed system
+pub record IsSmallSystem (n degree : ℕ) (weights : List ℕ) : Type 0 where
+  pub count : length weights ≡ n
+  pub sum : total weights ≡ degree
+  pub least : 1 ≤ degree
+  pub most : degree ≤ 32_767
+
+summed_small : (n degree : ℕ) (weights : List ℕ) → is_summed n degree weights ≡ true → IsSmallSystem n degree weights
+summed_small n degree weights e =
+    let rest = second_test (length weights == n) _ e in
+    let bounds = second_test (total weights == degree) _ rest in
+    record {
+      count = eqb-true (length weights) n (first_test (length weights == n) _ e);
+      sum = eqb-true (total weights) degree (first_test (total weights == degree) _ rest);
+      least = ltb-true 0 degree (first_test (nat_lt 0 degree) _ bounds);
+      most = let h = ltb-true degree 32_768 (second_test (nat_lt 0 degree) _ bounds) in omega arith;
+    }
+
+-- positive weights
+positive_at : (weights : List ℕ) (place : ℕ) → are_positive weights ≡ true → place < length weights → 1 ≤ slice_index_or weights place 0
+positive_at [] place e h = absurd (omega arith)
+positive_at (w ∷ weights) zero e h = ltb-true 0 w (first_test (nat_lt 0 w) _ e)
+positive_at (w ∷ weights) (suc place) e h = positive_at weights place (second_test (nat_lt 0 w) _ e) (omega arith)
+
+-- what a plain system is
+pub record IsPlainSystem (degree : ℕ) (weights : List ℕ) : Type 0 where
+  pub small : IsSmallSystem (length weights) degree weights
+  pub positive : are_positive weights ≡ true
+  pub most : length weights ≤ 12
+
+plain_system : (degree : ℕ) (weights : List ℕ) → is_plain degree weights ≡ true → IsPlainSystem degree weights
+plain_system degree weights e =
+    let rest = second_test (are_positive weights) _ e in
+    let counts = second_test (is_summed (length weights) degree weights) _ rest in
+    record {
+      small = summed_small (length weights) degree weights (first_test (is_summed (length weights) degree weights) _ rest);
+      positive = first_test (are_positive weights) _ e;
+      most = let h = ltb-true (length weights) 13 (second_test (nat_lt 0 (length weights)) _ counts) in omega arith;
+    }
+
+-- systems of which the first has positive weights
+is_summed_system : (n : ℕ) (system : Weighted) → IsSmallSystem n system.degree system.weights → IsSummed n system
+is_summed_system n system h = record { columns = h.count; sum = h.sum; positive = h.least }
+
+formed_from : (first : Weighted) (others : List Weighted) → IsPlainSystem first.degree first.weights → Each (IsSummed (length first.weights)) others → AreWellFormed (first ∷ others)
+formed_from first others p h = record {
+  some = omega arith;
+  summed = all_from_each {P = IsSummed (length first.weights)} (more (is_summed_system (length first.weights) first p.small) h);
+  used = λ place l. record { system = first; member = (0, zero-lt-suc _, refl); positive = positive_at first.weights place p.positive l };
+}
+
+pub formed_one : (first : Weighted) → is_plain first.degree first.weights ≡ true → AreWellFormed (first ∷ [])
+formed_one first e = formed_from first [] (plain_system first.degree first.weights e) empty
+
+pub limited_one : (first : Weighted) → is_plain first.degree first.weights ≡ true → AreWithinLimits (first ∷ [])
+limited_one first e =
+    let p = plain_system first.degree first.weights e in
+    let most = p.small.most in
+    record {
+      few = omega arith;
+      weights = p.most;
+      degrees = all_from_each {P = λ s. s.degree ≤ 32_767} (more most empty);
+      product = omega arith;
+    }
+
+pub formed_two : (first second : Weighted) → is_plain first.degree first.weights ≡ true → is_summed (length first.weights) second.degree second.weights ≡ true → AreWellFormed (first ∷ second ∷ [])
+formed_two first second e f = formed_from first (second ∷ []) (plain_system first.degree first.weights e) (more (is_summed_system (length first.weights) second (summed_small (length first.weights) second.degree second.weights f)) empty)
+
+pub limited_two : (first second : Weighted) → is_plain first.degree first.weights ≡ true → is_summed (length first.weights) second.degree second.weights ≡ true → AreWithinLimits (first ∷ second ∷ [])
+limited_two first second e f =
+    let p = plain_system first.degree first.weights e in
+    let q = summed_small (length first.weights) second.degree second.weights f in
+    record {
+      few = omega arith;
+      weights = p.most;
+      degrees = all_from_each {P = λ s. s.degree ≤ 32_767} (more p.small.most (more q.most empty));
+      product = let h = mul-le-mul p.small.most q.most in omega arith;
+    }

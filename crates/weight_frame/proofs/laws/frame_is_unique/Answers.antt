@@ -1,0 +1,5 @@
+use Rattle.weight_frame.proofs.Frames.{frame_is_unique}
+use Rattle.weight_frame.proofs.laws.frame_is_unique.Goals as goal
+
+pub returns : goal.returns
+returns c = frame_is_unique

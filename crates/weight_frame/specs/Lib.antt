@@ -1,0 +1,9 @@
+pub mod Frame
+pub mod Laws
+pub mod Answers
+pub mod Reached
+pub mod Euclid
+pub mod Sums
+pub mod Echelon
+pub mod Places
+pub mod Plain
