@@ -40,29 +40,18 @@ pub record HasManyVertices (n : ℕ) (points : List (List ℤ)) (told : ℕ) : T
 -- the size is told, and it is above the limit
 abbrev pub IsSizeLimit : ℕ → List (List ℤ) → LimitName → ℕ → Type 0
 IsSizeLimit n points limits.Size told = (told ≡ size n points) × (size_limit_of n < size n points)
-IsSizeLimit n points limits.Dim told = ⊥
-IsSizeLimit n points limits.Input told = ⊥
-IsSizeLimit n points limits.Facets told = ⊥
-IsSizeLimit n points limits.Vertices told = ⊥
-IsSizeLimit n points limits.Points told = ⊥
+IsSizeLimit n points other told = ⊥
 
 -- the limits on the facets of points: first the size, then the number of facets
 abbrev pub IsFacetsLimit : ℕ → List (List ℤ) → LimitName → ℕ → Type 0
 IsFacetsLimit n points limits.Size told = (told ≡ size n points) × (size_limit_of n < size n points)
 IsFacetsLimit n points limits.Facets told = IsSized n points × (IsFlat n points → ⊥) × HasManyFacets n points told
-IsFacetsLimit n points limits.Dim told = ⊥
-IsFacetsLimit n points limits.Input told = ⊥
-IsFacetsLimit n points limits.Vertices told = ⊥
-IsFacetsLimit n points limits.Points told = ⊥
+IsFacetsLimit n points other told = ⊥
 
 -- the limit on the number of vertices
 abbrev pub IsVerticesLimit : ℕ → List (List ℤ) → LimitName → ℕ → Type 0
 IsVerticesLimit n points limits.Vertices told = HasManyVertices n points told
-IsVerticesLimit n points limits.Dim told = ⊥
-IsVerticesLimit n points limits.Input told = ⊥
-IsVerticesLimit n points limits.Size told = ⊥
-IsVerticesLimit n points limits.Facets told = ⊥
-IsVerticesLimit n points limits.Points told = ⊥
+IsVerticesLimit n points other told = ⊥
 
 -- the facets of points of dimension n are refused by their size, then with the flat function, then by their number
 abbrev pub IsFacetsRefusal : ℕ → List (List ℤ) → Refusal → Type 0

@@ -24,10 +24,22 @@ impl<T: Drop> From<AllocFailed<T>> for NoMemory {
 /// Which limit an item exceeds.
 #[derive(Clone, Copy, Debug, PartialEq, Eq)]
 pub enum LimitName {
+    /// The number of systems of a weight line.
+    Systems,
+    /// The number of weights of a system.
+    Weights,
+    /// The degree of a system.
+    Degree,
+    /// The product of all degrees of a weight line.
+    DegreeProduct,
+    /// The size of an entry of a vector that the frame's recursion makes.
+    Frame,
     /// The dimension.
     Dim,
     /// The larger number of a matrix's header.
     Input,
+    /// The number of exponent vectors.
+    Monomials,
     /// The size of the points.
     Size,
     /// The number of facets.

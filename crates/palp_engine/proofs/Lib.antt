@@ -1,9 +1,13 @@
-mod Digits
-mod FrontsAreSingle
-mod Buffers
-mod Readings
-mod VertexLists
-mod CountedPoints
-mod MatrixPoints
-mod RunMeanings
-mod SingleAnswers
+pub mod VertexLists
+pub mod CountedPoints
+pub mod MatrixPoints
+pub mod SingleAnswers
+pub mod HullStops
+pub mod SingleWeights
+pub mod SingleItems
+pub mod SingleReports
+pub mod LineNumbers
+pub mod WeightWalks
+pub mod TextReadings
+pub mod ReportSteps
+pub mod RunMeanings

@@ -6,7 +6,7 @@ use Rattle.std.proofs.lemmas.List.FromFn.{length-map-range_with_len}
 use Rattle.lattice_theory.specs.Vector.{HaveDimension}
 use Rattle.lattice_core.specs.Dimensions.{dimension_of}
 use Rattle.elimination.proofs.Members.{each_map, each_from_in, all_from_each}
-use Rattle.palp_engine.specs.Texts.{coordinate_of, coordinate_count, point_at, point_count, points_of}
+use Rattle.palp_engine.specs.Matrices.{coordinate_of, coordinate_count, point_at, point_count, points_of}
 use Rattle.palp_engine.proofs.VertexLists.{first_dimension}
 
 -- each point has as many coordinates

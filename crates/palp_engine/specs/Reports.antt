@@ -10,26 +10,13 @@ use Rattle.lattice_theory.specs.Points.{AreLatticePoints}
 use Rattle.lattice_core.specs.Limits.{size_limit_of}
 use Rattle.lattice_core.specs.declared.faults.Refusal.{Refusal}
 use Rattle.lattice_core.specs.declared.faults.Refusal.TheVariants.{Flat, Limit}
-use Rattle.lattice_core.specs.declared.faults.LimitName.{LimitName}
-use Rattle.lattice_core.specs.declared.faults.LimitName.TheVariants.{Dim, Input, Size, Facets, Vertices, Points}
+use Rattle.lattice_core.specs.declared.faults.LimitName.TheVariants.{Size, Facets, Vertices, Points}
+use Rattle.palp_engine.specs.Limits.{most_coordinates, most_facets, most_vertices, most_points}
 
 -- the line that tells the numbers of lattice points, vertices and facets
 abbrev pub body_line : ℕ → ℕ → ℕ → List ℕ
 body_line points vertices facets =
     codes "M:" ++ (decimal points ++ (codes " " ++ (decimal vertices ++ (codes " F:" ++ (decimal facets ++ codes "\n")))))
-
--- the limits of an item that isn't refused: its dimension, and its numbers of facets, of vertices and of lattice points
-abbrev pub most_coordinates : ℕ
-most_coordinates = 6
-
-abbrev pub most_facets : ℕ
-most_facets = 128
-
-abbrev pub most_vertices : ℕ
-most_vertices = 128
-
-abbrev pub most_points : ℕ
-most_points = 16384
 
 -- the points have few coordinates and are within the size limit
 pub record AreSized (n : ℕ) (points : List (List ℤ)) : Type 0 where
@@ -63,10 +50,6 @@ pub record IsBodyLine (n : ℕ) (points : List (List ℤ)) (line : List ℕ) : T
   pub few : length lattice ≤ most_points
   pub written : line ≡ body_line (length lattice) (length polytope.vertices) (length polytope.faces.facets)
 
--- points have too many coordinates: their number is told
-abbrev pub HaveManyCoordinates : ℕ → ℕ → Type 0
-HaveManyCoordinates n told = (told ≡ n) × (most_coordinates < n)
-
 -- the points' size is above the limit, and it is told
 pub record AreLarge (n : ℕ) (points : List (List ℤ)) (told : ℕ) : Type 0 where
   pub dimension : n ≤ most_coordinates
@@ -97,17 +80,11 @@ pub record HaveManyPoints (n : ℕ) (points : List (List ℤ)) (told : ℕ) : Ty
   pub many : most_points < length lattice
   pub told_is : told ≡ most_points + 1
 
--- the limit is the first that the points exceed, and its number is told. A matrix that is read here has too few numbers for the limit
--- `Input`.
-abbrev pub IsExceeded : ℕ → List (List ℤ) → LimitName → ℕ → Type 0
-IsExceeded n points Dim told = HaveManyCoordinates n told
-IsExceeded n points Input told = ⊥
-IsExceeded n points Size told = AreLarge n points told
-IsExceeded n points Facets told = HaveManyFacets n points told
-IsExceeded n points Vertices told = HaveManyVertices n points told
-IsExceeded n points Points told = HaveManyPoints n points told
-
--- why the points are refused. The order is: the dimension, the size, flat points, the facets, the vertices, the lattice points.
-abbrev pub IsRefused : ℕ → List (List ℤ) → Refusal → Type 0
-IsRefused n points (Flat f) = AreSized n points × IsFlatFunction n points f
-IsRefused n points (Limit name told) = IsExceeded n points name told
+-- why the points are refused: their size, that they are flat, their facets, their vertices, or their lattice points. Each is asked where those
+-- before it hold.
+pub data IsRefused (n : ℕ) (points : List (List ℤ)) : Refusal → Type 0 where
+  large : {told : ℕ} → AreLarge n points told → IsRefused n points (Limit Size told)
+  flat : {f : Affine} → AreSized n points → IsFlatFunction n points f → IsRefused n points (Flat f)
+  many_facets : {told : ℕ} → HaveManyFacets n points told → IsRefused n points (Limit Facets told)
+  many_vertices : {told : ℕ} → HaveManyVertices n points told → IsRefused n points (Limit Vertices told)
+  many_points : {told : ℕ} → HaveManyPoints n points told → IsRefused n points (Limit Points told)

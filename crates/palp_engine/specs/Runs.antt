@@ -1,13 +1,17 @@
 -- What a run does. This project's own.
-use Rattle.std.specs.Prelude.{◌≡◌, ◌⊎◌, ℕ, ◌+◌, ◌≤◌, Bool, true, List, [], ◌∷◌, length, codes, Option}
-use Rattle.lattice_core.specs.declared.faults.Refusal.{Refusal}
+use Rattle.std.specs.Prelude.{◌≡◌, ℕ, ◌+◌, ◌≤◌, Bool, true, List, [], length, Option, IfSome, Err}
 use Rattle.std.specs.Io.KnownBytes.{IsAtEnd}
 use Rattle.palp_io.specs.Faults.{Rose}
 use Rattle.palp_io.specs.Source.{Passes}
-use Rattle.palp_io.specs.Sink.{Gains, GainsFront}
-use Rattle.palp_engine.specs.Answers.{IsLineOfText, IsRefusedText, IsNoMatrixText}
+use Rattle.palp_io.specs.Sink.{Gains}
+use Rattle.palp_words.specs.Words.{words_of}
+use Rattle.palp_words.specs.declared.fault.WordFault.{WordFault}
+use Rattle.palp_input.specs.Grammar.{most_bytes}
+use Rattle.palp_engine.specs.Commands.{AreBuilt, AreUnbuilt}
+use Rattle.palp_engine.specs.Texts.{IsReportOf, IsFrontOf}
+use Rattle.palp_engine.specs.Sessions.{Output}
 use Rattle.palp_engine.specs.declared.outcome.Outcome.{Outcome}
-use Rattle.palp_engine.specs.declared.outcome.Outcome.TheVariants.{Done, Refused, NotBuilt, ReadFault, WriteFault, NoMemory}
+use Rattle.palp_engine.specs.declared.outcome.Outcome.TheVariants.{Done, BadWords, BadText, Refused, TextLimit, NotBuilt, ReadFault, WriteFault, NoMemory}
 
 -- a source before and after a run
 pub record Intake : Type 0 where
@@ -19,21 +23,6 @@ pub record Intake : Type 0 where
   pub taken_now : List ℕ
   pub ended_now : Bool
   pub faults_now : ℕ
-
--- a sink before and after a run
-pub record Output : Type 0 where
-  pub given_before : Option (List ℕ)
-  pub faults_before : ℕ
-  pub given_now : Option (List ℕ)
-  pub faults_now : ℕ
-
--- the command that is built: the words are `poly` and `-n`
-abbrev pub IsPlainPoly : List (List ℕ) → Type 0
-IsPlainPoly words = words ≡ codes "poly" ∷ (codes "-n" ∷ [])
-
--- the most bytes that a run takes: one more than a text may have
-abbrev pub most_taken : ℕ
-most_taken = 65536 + 1
 
 -- the source is as it was
 pub record IsUntouched (source : Intake) : Type 0 where
@@ -47,88 +36,79 @@ pub record IsReadWhole (source : Intake) : Type 0 where
   pub ended : source.ended_now ≡ true
   pub nothing_left : IsAtEnd source.left_now
 
--- Done: the text that was taken, to its end, is a matrix text, and its body line was appended, whole
-pub record IsDone (words : List (List ℕ)) (source : Intake) (out : Output) (text : List ℕ) : Type 0 where
-  pub command : IsPlainPoly words
-  pub whole : IsReadWhole source
-  pub line : List ℕ
-  pub is_line : IsLineOfText text line
-  pub appended : Gains out.given_before out.given_now line
+-- the report of the text that the source had left, as far as it tells, was appended, whole, and the outcome is the text's
+pub record IsReported (source : Intake) (out : Output) (outcome : Outcome) : Type 0 where
+  pub report : List ℕ
+  pub is_report : IfSome source.left_before (λ text. IsReportOf text report outcome)
+  pub appended : Gains out.given_before out.given_now report
 
--- Refused: the text that was taken, to its end, is a matrix text whose points are refused for this cause. Nothing was appended.
-pub record IsRefusedRun (words : List (List ℕ)) (source : Intake) (out : Output) (text : List ℕ) (item : ℕ) (cause : Refusal) : Type 0 where
-  pub command : IsPlainPoly words
-  pub whole : IsReadWhole source
-  pub first : item ≡ 1
-  pub refused : IsRefusedText text cause
-  pub appended : Gains out.given_before out.given_now []
+-- a front of that report was appended
+pub record IsReportedInPart (source : Intake) (out : Output) : Type 0 where
+  pub front : List ℕ
+  pub is_front : IfSome source.left_before (λ text. IsFrontOf text front)
+  pub appended : Gains out.given_before out.given_now front
 
--- NotBuilt: the words are another command, and nothing was read; or what was taken, to the source's end or to the most bytes, is no
--- matrix text. Nothing was appended.
-pub record IsOtherCommand (words : List (List ℕ)) (source : Intake) : Type 0 where
-  pub other : IsPlainPoly words → ⊥
+-- the report of a text that has this outcome was appended, whole
+abbrev pub PerformedMeans : Intake → Output → Outcome → Type 0
+PerformedMeans source out Done = IsReadWhole source × IsReported source out Done
+PerformedMeans source out (BadText fault) = IsReported source out (BadText fault)
+PerformedMeans source out (Refused item cause) = IsReported source out (Refused item cause)
+PerformedMeans source out TextLimit = IsReported source out TextLimit
+PerformedMeans source out ReadFault = Rose source.faults_before source.faults_now × Gains out.given_before out.given_now []
+PerformedMeans source out WriteFault = Rose out.faults_before out.faults_now × IsReportedInPart source out
+PerformedMeans source out NoMemory = IsReportedInPart source out
+PerformedMeans source out other = ⊥
+
+-- the job that is built took so many bytes from the source, and its outcome means what it says
+pub record IsPerformed (source : Intake) (out : Output) (outcome : Outcome) : Type 0 where
+  pub text : List ℕ
+  pub passes : Passes source.left_before source.taken_before source.left_now source.taken_now text
+  pub bound : length text ≤ most_bytes + 1
+  pub means : PerformedMeans source out outcome
+
+-- the words give the job that is built, and the outcome means what it says of it
+pub record AreDone (words : List (List ℕ)) (source : Intake) (out : Output) (outcome : Outcome) : Type 0 where
+  pub command : AreBuilt words
+  pub means : PerformedMeans source out outcome
+
+-- the words have this fault. Nothing was read or appended.
+pub record AreBadWords (words : List (List ℕ)) (source : Intake) (out : Output) (fault : WordFault) : Type 0 where
+  pub faulty : words_of words ≡ Err fault
   pub untouched : IsUntouched source
-
-pub record IsOtherText (words : List (List ℕ)) (source : Intake) (text : List ℕ) : Type 0 where
-  pub command : IsPlainPoly words
-  pub whole : IsReadWhole source ⊎ (length text ≡ most_taken)
-  pub unread : IsNoMatrixText text
-
-abbrev pub IsNotBuilt : List (List ℕ) → Intake → Output → List ℕ → Type 0
-IsNotBuilt words source out text =
-    (IsOtherCommand words source ⊎ IsOtherText words source text) × Gains out.given_before out.given_now []
-
--- ReadFault: the source's count of faults rose. Nothing was appended.
-pub record IsReadFault (words : List (List ℕ)) (source : Intake) (out : Output) : Type 0 where
-  pub command : IsPlainPoly words
-  pub rose : Rose source.faults_before source.faults_now
   pub appended : Gains out.given_before out.given_now []
 
--- WriteFault: the count of faults of the report's sink rose, and a front of the body line was appended
-pub record IsWriteFault (words : List (List ℕ)) (source : Intake) (out : Output) (text : List ℕ) : Type 0 where
-  pub command : IsPlainPoly words
-  pub rose : Rose out.faults_before out.faults_now
-  pub whole : IsReadWhole source
-  pub line : List ℕ
-  pub is_line : IsLineOfText text line
-  pub appended : GainsFront out.given_before out.given_now line
-
--- NoMemory: nothing was appended
-pub record IsOutOfMemory (words : List (List ℕ)) (out : Output) : Type 0 where
-  pub command : IsPlainPoly words
+-- the words give another job. Nothing was read or appended.
+pub record AreNotBuilt (words : List (List ℕ)) (source : Intake) (out : Output) : Type 0 where
+  pub other : AreUnbuilt words
+  pub untouched : IsUntouched source
   pub appended : Gains out.given_before out.given_now []
 
--- what each outcome means, for the bytes that were taken
-abbrev pub Means : List (List ℕ) → Intake → Output → List ℕ → Outcome → Type 0
-Means words source out text Done = IsDone words source out text
-Means words source out text (Refused item cause) = IsRefusedRun words source out text item cause
-Means words source out text NotBuilt = IsNotBuilt words source out text
-Means words source out text ReadFault = IsReadFault words source out
-Means words source out text WriteFault = IsWriteFault words source out text
-Means words source out text NoMemory = IsOutOfMemory words out
+-- what each outcome means
+abbrev pub Means : List (List ℕ) → Intake → Output → Outcome → Type 0
+Means words source out (BadWords fault) = AreBadWords words source out fault
+Means words source out NotBuilt = AreNotBuilt words source out
+Means words source out Done = AreDone words source out Done
+Means words source out (BadText fault) = AreDone words source out (BadText fault)
+Means words source out (Refused item cause) = AreDone words source out (Refused item cause)
+Means words source out TextLimit = AreDone words source out TextLimit
+Means words source out ReadFault = AreDone words source out ReadFault
+Means words source out WriteFault = AreDone words source out WriteFault
+Means words source out NoMemory = AreDone words source out NoMemory
 
--- what the answer to a text that was read whole means, for the sink of the report
-abbrev pub ReportMeans : List ℕ → Output → Outcome → Type 0
-ReportMeans text out Done = (line : List ℕ) × IsLineOfText text line × Gains out.given_before out.given_now line
-ReportMeans text out (Refused item cause) =
-    (item ≡ 1) × IsRefusedText text cause × Gains out.given_before out.given_now []
-ReportMeans text out NotBuilt = IsNoMatrixText text × Gains out.given_before out.given_now []
-ReportMeans text out ReadFault = ⊥
-ReportMeans text out WriteFault =
-    Rose out.faults_before out.faults_now × (line : List ℕ) × IsLineOfText text line × GainsFront out.given_before out.given_now line
-ReportMeans text out NoMemory = Gains out.given_before out.given_now []
-
--- a run took the text from the source, at most so many bytes, and its outcome means what it says
+-- a run took so many bytes from the source, and its outcome means what it says
 pub record IsRun (words : List (List ℕ)) (source : Intake) (out : Output) (outcome : Outcome) : Type 0 where
   pub text : List ℕ
   pub passes : Passes source.left_before source.taken_before source.left_now source.taken_now text
-  pub bound : length text ≤ most_taken
-  pub means : Means words source out text outcome
+  pub bound : length text ≤ most_bytes + 1
+  pub means : Means words source out outcome
 
 -- the outcome is neither of the two that a stream's fault has
 abbrev pub IsSettled : Outcome → Type 0
 IsSettled Done = Unit {0}
+IsSettled (BadWords fault) = Unit {0}
+IsSettled (BadText fault) = Unit {0}
 IsSettled (Refused item cause) = Unit {0}
+IsSettled TextLimit = Unit {0}
 IsSettled NotBuilt = Unit {0}
 IsSettled ReadFault = ⊥
 IsSettled WriteFault = ⊥

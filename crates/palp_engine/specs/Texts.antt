@@ -1,67 +1,45 @@
--- The texts that `poly -n` reads today: one matrix, in the one form in which it is written here. This project's own; such a text is a
--- matrix with a header as PALP reads it (arXiv:1205.4147, section 3).
-use Rattle.std.specs.Prelude.{◌≡◌, ℕ, suc, ◌+◌, ◌*◌, ◌%◌, ◌^◌, ◌<◌, ◌≤◌, ◌==◌, min, max, nat_le, if◌then◌else◌, ◌⊎◌, List, [], ◌∷◌, ◌++◌, length, map, ℤ, nat_abs}
-use Rattle.std.specs.Fmt.{decimal, signed_decimal}
-use Rattle.std.specs.List.{All, range_with_len}
-use Rattle.lattice_theory.specs.Vector.{entry}
+-- The report of a text and the outcome that it ends with. This project's own.
+use Rattle.std.specs.Prelude.{◌≡◌, ◌⊎◌, ℕ, ◌+◌, List, [], ◌∷◌, ◌++◌}
+use Rattle.lattice_core.specs.declared.faults.Refusal.{Refusal}
+use Rattle.palp_input.specs.Grammar.{Listed, TextEnd, End, FaultEnd, TooLongEnd, read_text}
+use Rattle.palp_engine.specs.Items.{IsItemRefused, IsPiece}
+use Rattle.palp_engine.specs.declared.outcome.Outcome.{Outcome}
+use Rattle.palp_engine.specs.declared.outcome.Outcome.TheVariants.{Done, BadText, Refused, TextLimit}
 
--- what stands in front of the k-th number of a matrix, counted from 0: a line end where it begins a line, otherwise a space
-abbrev pub mark : ℕ → ℕ → ℕ
-mark columns k = if k % columns == 0 then 10 else 32
+-- the outcome where no item is refused
+abbrev pub outcome_of : TextEnd → Outcome
+outcome_of End = Done
+outcome_of (FaultEnd fault) = BadText fault
+outcome_of TooLongEnd = TextLimit
 
--- the numbers from the k-th on, line by line, each behind its mark
-abbrev pub numbers_text : ℕ → ℕ → List ℤ → List ℕ
-numbers_text columns k [] = []
-numbers_text columns k (z ∷ zs) = mark columns k ∷ (signed_decimal z ++ numbers_text columns (suc k) zs)
+-- the report ends at an item that is refused, whose number is told with the cause
+pub record StopsAt (number : ℕ) (item : Listed) (report : List ℕ) (outcome : Outcome) : Type 0 where
+  pub cause : Refusal
+  pub refused : IsItemRefused item cause
+  pub nothing : report ≡ []
+  pub outcome_is : outcome ≡ Refused number cause
 
--- the header, which is the numbers of lines and of columns with a space between them, and then the numbers
-abbrev pub matrix_text : ℕ → ℕ → List ℤ → List ℕ
-matrix_text lines columns entries = decimal lines ++ (32 ∷ (decimal columns ++ numbers_text columns 0 entries))
+-- The report of items, of which the first has this number: their pieces, in order, up to the first item that is refused. The outcome tells
+-- that refusal, or else how the text ends.
+abbrev pub IsReport : ℕ → List Listed → TextEnd → List ℕ → Outcome → Type 0
+IsReport number [] ending report outcome = (report ≡ []) × (outcome ≡ outcome_of ending)
+IsReport number (item ∷ items) ending report outcome =
+    StopsAt number item report outcome
+    ⊎ ((piece later : List ℕ) × IsPiece item piece × (report ≡ piece ++ later) × IsReport (number + 1) items ending later outcome)
 
--- a number of a matrix has at most nine digits
-abbrev pub IsShort : ℤ → Type 0
-IsShort z = nat_abs z < 10 ^ 9
+-- A front of the report of items: nothing, or a front of the first item's piece, or that piece and a front of the report of the items behind
+-- it.
+abbrev pub IsFront : List Listed → List ℕ → Type 0
+IsFront [] front = front ≡ []
+IsFront (item ∷ items) front =
+    (front ≡ [])
+    ⊎ ((piece : List ℕ) × IsPiece item piece
+    × (((missing : List ℕ) × (piece ≡ front ++ missing)) ⊎ ((later : List ℕ) × (front ≡ piece ++ later) × IsFront items later)))
 
--- the text is the matrix with these numbers, line by line; the last line may have its line end or not
-pub record IsMatrixText (text : List ℕ) (lines columns : ℕ) (entries : List ℤ) : Type 0 where
-  pub short : length text ≤ 65536
-  pub least_lines : 1 ≤ lines
-  pub most_lines : lines ≤ 999
-  pub least_columns : 1 ≤ columns
-  pub most_columns : columns ≤ 999
-  pub full : length entries ≡ lines * columns
-  pub digits : All IsShort entries
-  pub spelled : (text ≡ matrix_text lines columns entries) ⊎ (text ≡ matrix_text lines columns entries ++ (10 ∷ []))
+-- a front of the report of a text
+abbrev pub IsFrontOf : List ℕ → List ℕ → Type 0
+IsFrontOf text front = IsFront (read_text text).items front
 
--- the number in a line and a column, both counted from 0
-abbrev pub number_at : ℕ → List ℤ → ℕ → ℕ → ℤ
-number_at columns entries line column = entry entries (line * columns + column)
-
--- a coordinate of a point of a matrix, both counted from 0. The points are the lines where there are at least as many lines as columns,
--- otherwise the columns.
-abbrev pub coordinate_of : ℕ → ℕ → List ℤ → ℕ → ℕ → ℤ
-coordinate_of lines columns entries point place =
-    if nat_le columns lines then number_at columns entries point place else number_at columns entries place point
-
--- how many coordinates each point of a matrix has, and how many points there are
-abbrev pub coordinate_count : ℕ → ℕ → ℕ
-coordinate_count lines columns = min lines columns
-
-abbrev pub point_count : ℕ → ℕ → ℕ
-point_count lines columns = max lines columns
-
--- a point of a matrix, counted from 0
-abbrev pub point_at : ℕ → ℕ → List ℤ → ℕ → List ℤ
-point_at lines columns entries point = map (coordinate_of lines columns entries point) (range_with_len 0 (coordinate_count lines columns))
-
--- the points of a matrix
-abbrev pub points_of : ℕ → ℕ → List ℤ → List (List ℤ)
-points_of lines columns entries = map (point_at lines columns entries) (range_with_len 0 (point_count lines columns))
-
--- a matrix with so many lines and columns has its numbers
-pub record IsFull (lines columns : ℕ) (entries : List ℤ) : Type 0 where
-  pub least_lines : 1 ≤ lines
-  pub most_lines : lines ≤ 999
-  pub least_columns : 1 ≤ columns
-  pub most_columns : columns ≤ 999
-  pub full : length entries ≡ lines * columns
+-- the report of a text, and the outcome
+abbrev pub IsReportOf : List ℕ → List ℕ → Outcome → Type 0
+IsReportOf text report outcome = IsReport 1 (read_text text).items (read_text text).ending report outcome

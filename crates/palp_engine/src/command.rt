@@ -1,57 +1,99 @@
 //! The top call.
 
-ghost use Rattle.std.specs.Prelude.{◌≡◌, ◌≤◌, ◌↔◌, IsTrue, map, length};
+ghost use Rattle.std.specs.Prelude.{◌≡◌, ◌<◌, ◌^◌, ◌↔◌, IsTrue, map, length};
+ghost use Rattle.std.specs.List.{All};
 ghost use Rattle.std.specs.String.{string_bytes};
 ghost use Rattle.palp_io.specs.Faults.{Rose};
+ghost use Rattle.palp_input.specs.Grammar.{listed};
+ghost use Rattle.palp_input.specs.Laws.{IsItem};
+ghost use Rattle.palp_engine.specs.Commands.{IsBuilt};
 ghost use Rattle.palp_engine.specs.Notes.{note_line, IsNoted};
-ghost use Rattle.palp_engine.specs.Runs.{IsPlainPoly, IsRun, IsSettled, ReportMeans};
+ghost use Rattle.palp_engine.specs.Texts.{outcome_of};
+ghost use Rattle.palp_engine.specs.Readings.{text_end};
+ghost use Rattle.palp_engine.specs.Sessions.{IsStopped, ReportMeans};
+ghost use Rattle.palp_engine.specs.Runs.{IsPerformed, IsRun, IsSettled};
 
 use crate::Outcome;
-use crate::answers::answer_to;
-use crate::intake::{Filled, MOST_BYTES, fill};
 use crate::lines::note_line as note_of;
-use lattice_core::Fault;
-use palp_io::{Gave, Sink, Source};
+use crate::reading::{Ending, ReadingFault, read_all};
+use crate::session::{ItemFault, Session, report_item};
+use palp_input::Item;
+use palp_io::{Sink, Source};
+use palp_words::{Job, PolyFlags, read_words};
 use std::alloc::Global;
 
-/// Whether the word is this text.
-fn is_word(word: &String, text: &str) -> bool
-    ensures { IsTrue result ↔ (string_bytes word.now ≡ text.now) }
+/// The flags of the job that is built.
+const PLAIN: PolyFlags = PolyFlags {
+    general: true,
+    points: false,
+    vertices: false,
+    equations: false,
+    matrix: false,
+    dual_points: false,
+    incidence: false,
+    reflexive_only: false,
+    dual_input: false,
+    plain: true,
+};
+
+/// Whether the job is `poly` with `-n` alone.
+fn is_built(job: &Job) -> bool
+    ensures { IsTrue result ↔ IsBuilt job.now }
 {
-    word.as_str() == text
+    *job == Job::Poly(PLAIN)
 }
 
-/// Whether the words are `poly` and `-n`.
-fn is_plain_poly(words: &[String]) -> bool
-    ensures { IsTrue result ↔ IsPlainPoly (map (λ w. string_bytes w) words.now) }
+/// The outcome of a text that ends so, where no item is refused.
+fn outcome_of(ending: Ending) -> Outcome
+    ensures { result ≡ outcome_of (text_end ending) }
 {
-    words.len() == 2 && is_word(&words[0], "poly") && is_word(&words[1], "-n")
+    match ending {
+        Ending::End => Outcome::Done,
+        Ending::Fault(fault) => Outcome::BadText(fault),
+        Ending::TooLong => Outcome::TextLimit,
+    }
 }
 
-/// Answers to a text that was read whole.
-fn report<O: Sink>(alloc: Global, text: &[u8], out: &mut O) -> Outcome
-    requires { length text.now ≤ 65536 }
-    ensures { ReportMeans text.now (record {
+/// The outcome of an item with this number whose report isn't given whole.
+fn stopped(number: u64, fault: ItemFault) -> Outcome
+    ensures { IsStopped number fault result }
+{
+    match fault {
+        ItemFault::Refused(cause) => Outcome::Refused {
+            item: number,
+            cause,
+        },
+        ItemFault::Write => Outcome::WriteFault,
+        ItemFault::NoMemory => Outcome::NoMemory,
+    }
+}
+
+/// Reports items up to the first that is refused.
+fn report<O: Sink>(alloc: Global, job: &Job, items: &[Item], ending: Ending, out: &mut O) -> Outcome
+    requires job { IsBuilt job.now }
+    requires items { All (λ item. IsItem (listed item)) items.now }
+    ensures { ReportMeans (map listed items.now) (text_end ending) (record {
       given_before = O.given out.old;
       faults_before = O.faults out.old;
       given_now = O.given out.new;
       faults_now = O.faults out.new;
     }) result }
 {
-    match answer_to(alloc, text) {
-        Ok(Some(line)) => match out.give(line.as_slice()) {
-            Gave::All => Outcome::Done,
-            Gave::Failed => Outcome::WriteFault,
-        },
-        Ok(None) => Outcome::NotBuilt,
-        Err(Fault::Refused(cause)) => Outcome::Refused { item: 1, cause },
-        Err(Fault::NoMemory) => Outcome::NoMemory,
+    let Ok(mut session) = Session::open(alloc) else {
+        return Outcome::NoMemory;
+    };
+    for (place, item) in items.iter().enumerate() {
+        if let Err(fault) = report_item(&mut session, job, item, out) {
+            return stopped(place as u64 + 1, fault);
+        }
     }
+    outcome_of(ending)
 }
 
-/// Does what the words say, but for the note.
-fn perform<S: Source, O: Sink>(alloc: Global, words: &[String], src: &mut S, out: &mut O) -> Outcome
-    ensures run { IsRun (map (λ w. string_bytes w) words.now)
+/// Does the job that is built.
+fn perform<S: Source, O: Sink>(alloc: Global, job: &Job, src: &mut S, out: &mut O) -> Outcome
+    requires { IsBuilt job.now }
+    ensures { IsPerformed
         (record {
           left_before = S.left src.old;
           taken_before = S.taken src.old;
@@ -70,28 +112,51 @@ fn perform<S: Source, O: Sink>(alloc: Global, words: &[String], src: &mut S, out
         })
         result }
 {
-    if !is_plain_poly(words) {
-        return Outcome::NotBuilt;
-    }
-    let mut buffer = [0; MOST_BYTES + 1];
-    match fill(src, &mut buffer) {
-        Filled::Whole(length) => report(alloc, &buffer[..length], out),
-        Filled::TooLong => Outcome::NotBuilt,
-        Filled::Failed => Outcome::ReadFault,
+    match read_all(alloc, src) {
+        Ok(reading) => report(alloc, job, &reading.items, reading.ending, out),
+        Err(ReadingFault::Source) => Outcome::ReadFault,
+        Err(ReadingFault::NoMemory) => Outcome::NoMemory,
     }
 }
 
-/// Runs the command that the words say, which are those of the command line without the program's name.
+/// Does what the words say, but for the note.
+fn answer<S: Source, O: Sink>(alloc: Global, words: &[String], src: &mut S, out: &mut O) -> Outcome
+    requires { length words.now < 2 ^ 31 }
+    ensures { IsRun (map string_bytes words.now)
+        (record {
+          left_before = S.left src.old;
+          taken_before = S.taken src.old;
+          ended_before = S.ended src.old;
+          faults_before = S.faults src.old;
+          left_now = S.left src.new;
+          taken_now = S.taken src.new;
+          ended_now = S.ended src.new;
+          faults_now = S.faults src.new;
+        })
+        (record {
+          given_before = O.given out.old;
+          faults_before = O.faults out.old;
+          given_now = O.given out.new;
+          faults_now = O.faults out.new;
+        })
+        result }
+{
+    match read_words(words) {
+        Ok(job) if is_built(&job) => perform(alloc, &job, src, out),
+        Ok(_) => Outcome::NotBuilt,
+        Err(fault) => Outcome::BadWords(fault),
+    }
+}
+
+/// Runs the command that the words say, which are those of the command line without the program's name; there are fewer than 2^31.
 ///
-/// `poly -n` reads the source to its end: one matrix with 1 to 999 lines and columns, in its written form of at most 65,536 bytes. Its
-/// points are its lines where there are at least as many lines as columns, otherwise its columns. It gives the line
-/// `M:points vertices F:facets` to `out` and answers `Done`; or it answers `Refused` with the first cause of these that holds: the
-/// limit `Dim` (more than 6 coordinates), the limit `Size`, the flat function of flat points, and the limits `Facets` (more than 128),
-/// `Vertices` (more than 128) and `Points` (more than 16,384 lattice points, for which 16,385 is told). Every other command is
-/// `NotBuilt` and reads nothing, and so is a text of another form, of which at most 65,537 bytes are taken. `ReadFault` and
-/// `WriteFault` come only where the count of faults of the source, or of `out`, rose in this call; `NoMemory` may come at any step.
-/// For each outcome but `Done` the outcome's note line is given to `notes`, or a front of it where the count of faults of `notes`
-/// rose, which changes nothing else.
+/// `poly` with `-n`, and without another block, reads the source to its end, and then reports the items of its text (docs/formats.md) one
+/// after another: for each one the line `M:points vertices F:facets`, behind the numbers of a weight line. `Done` comes where the whole
+/// report was given. `Refused` tells the first item that exceeds a limit (docs/limits.md) or is flat, `BadText` the first fault of the
+/// text, and `TextLimit` a text of more than 67,108,864 bytes; the items before are reported. Other commands are `NotBuilt`, and words that
+/// give none are `BadWords`; nothing is read then. `ReadFault` and `WriteFault` come only where the count of faults of the source, or of
+/// `out`, rose in this call; `NoMemory` may come at any step of `poly`. At most 67,108,865 bytes are taken. For each outcome but `Done` the
+/// outcome's note line is given to `notes`, or a front of it where the count of faults of `notes` rose, which changes nothing else.
 pub fn run<S: Source, O: Sink, N: Sink>(
     alloc: Global,
     words: &[String],
@@ -99,8 +164,10 @@ pub fn run<S: Source, O: Sink, N: Sink>(
     out: &mut O,
     notes: &mut N,
 ) -> Outcome
+    requires { length words.now < 2 ^ 31 }
+
     // What was taken and appended, and what each outcome means.
-    ensures run { IsRun (map (λ w. string_bytes w) words.now)
+    ensures run { IsRun (map string_bytes words.now)
         (record {
           left_before = S.left src.old;
           taken_before = S.taken src.old;
@@ -126,7 +193,7 @@ pub fn run<S: Source, O: Sink, N: Sink>(
     ensures completeness { (Rose (S.faults src.old) (S.faults src.new) → ⊥) → (Rose (O.faults out.old) (O.faults out.new) → ⊥)
         → IsSettled result }
 {
-    let outcome = perform(alloc, words, src, out);
+    let outcome = answer(alloc, words, src, out);
     if let Some(line) = note_of(&outcome) {
         let _answer = notes.give(line.as_slice());
     }

@@ -1,12 +1,17 @@
 //! What a text says is said once.
 
-ghost use Rattle.palp_engine.specs.Laws.{OneReading, OneLine, OneRefusal, LineOrRefusal};
+ghost use Rattle.palp_engine.specs.Laws.{OneLine, OneRefusal, LineOrRefusal, OnePiece, OneItemRefusal, PieceOrRefusal, OneReport, FrontsAreFronts};
 
-/// A law, and no work: a text has at most one reading, points have at most one body line and, if there is a point, at most one refusal,
-/// and not both. So what `run` gives is fixed by the definitions.
+/// A law, and no work: points have at most one body line and, if there is a point, at most one refusal, and not both; so have items. So a
+/// text has at most one report, which ends with one outcome, and what is told as a front of its report is one. What `run` gives is fixed
+/// by the definitions.
 pub fn answers_are_single()
-    ensures reading { OneReading }
     ensures line { OneLine }
     ensures refusal { OneRefusal }
     ensures apart { LineOrRefusal }
+    ensures piece { OnePiece }
+    ensures item_refusal { OneItemRefusal }
+    ensures item_apart { PieceOrRefusal }
+    ensures report { OneReport }
+    ensures front { FrontsAreFronts }
 {}

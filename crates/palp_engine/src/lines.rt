@@ -1,15 +1,18 @@
 //! The lines that are printed.
 
-ghost use Rattle.std.specs.Prelude.{◌≡◌, ℕ, ◌+◌, ◌*◌, ◌≤◌, List, ◌++◌, length, MatchOption, option_map, codes};
+ghost use Rattle.std.specs.Prelude.{◌≡◌, ℕ, ◌+◌, ◌*◌, ◌≤◌, List, ◌++◌, length, Some, option_map, codes};
 ghost use Rattle.std.specs.Fmt.{decimal};
 ghost use Rattle.arrayvec.specs.ArrayVec.{array_vec_len};
 ghost use Rattle.palp_engine.specs.Reports.{body_line as body_line_of};
-ghost use Rattle.palp_engine.specs.Notes.{note_line as note_line_of, function_text, limit_name, refusal_text};
+ghost use Rattle.palp_engine.specs.Notes.{note_line as note_line_of, function_text, limit_name, refusal_text, word_kind_name, text_kind_name};
+ghost use Rattle.palp_engine.specs.declared.outcome.Outcome.TheVariants as Outcome;
 
 use crate::Outcome;
 use arrayvec::ArrayVec;
 use itoa::{Buffer, Integer};
 use lattice_core::{Functional, LimitName, Refusal};
+use palp_input::{TextFault, TextKind};
+use palp_words::{WordFault, WordKind};
 
 /// A line that is printed: at most 512 bytes, with its line end.
 pub(crate) type Line = ArrayVec<u8, 512>;
@@ -61,14 +64,20 @@ fn put_function(line: &mut Line, function: &Functional)
     put_number(line, function.constant());
 }
 
-/// The name of a limit: at most 8 bytes.
+/// The name of a limit: at most 13 bytes.
 fn name_of(limit: LimitName) -> &'static [u8]
     ensures name { result.now ≡ limit_name limit }
-    ensures short { length result.now ≤ 8 }
+    ensures short { length result.now ≤ 13 }
 {
     match limit {
+        LimitName::Systems => b"Systems",
+        LimitName::Weights => b"Weights",
+        LimitName::Degree => b"Degree",
+        LimitName::DegreeProduct => b"DegreeProduct",
+        LimitName::Frame => b"Frame",
         LimitName::Dim => b"Dim",
         LimitName::Input => b"Input",
+        LimitName::Monomials => b"Monomials",
         LimitName::Size => b"Size",
         LimitName::Facets => b"Facets",
         LimitName::Vertices => b"Vertices",
@@ -80,7 +89,7 @@ fn name_of(limit: LimitName) -> &'static [u8]
 fn put_refusal(line: &mut Line, cause: &Refusal)
     requires { array_vec_len line.old ≤ 80 }
     ensures bytes { line.new.items ≡ line.old.items ++ refusal_text cause.now }
-    ensures len { array_vec_len line.new ≤ array_vec_len line.old + 320 }
+    ensures len { array_vec_len line.new ≤ array_vec_len line.old + 340 }
 {
     match cause {
         Refusal::Flat(function) => {
@@ -94,6 +103,78 @@ fn put_refusal(line: &mut Line, cause: &Refusal)
             put_number(line, *told);
         }
     }
+}
+
+/// The name of a fault of a word: at most 8 bytes.
+fn word_kind(kind: WordKind) -> &'static [u8]
+    ensures name { result.now ≡ word_kind_name kind }
+    ensures short { length result.now ≤ 8 }
+{
+    match kind {
+        WordKind::Missing => b"Missing",
+        WordKind::Command => b"Command",
+        WordKind::Flag => b"Flag",
+        WordKind::Number => b"Number",
+        WordKind::Range => b"Range",
+        WordKind::Extra => b"Extra",
+        WordKind::Conflict => b"Conflict",
+    }
+}
+
+/// The name of a fault of a text: at most 11 bytes.
+fn text_kind(kind: TextKind) -> &'static [u8]
+    ensures name { result.now ≡ text_kind_name kind }
+    ensures short { length result.now ≤ 11 }
+{
+    match kind {
+        TextKind::BadNumber => b"BadNumber",
+        TextKind::NumberRange => b"NumberRange",
+        TextKind::MatrixShort => b"MatrixShort",
+        TextKind::WeightSum => b"WeightSum",
+        TextKind::Lengths => b"Lengths",
+        TextKind::ZeroColumn => b"ZeroColumn",
+        TextKind::NoWeights => b"NoWeights",
+        TextKind::Quotient => b"Quotient",
+        TextKind::BadByte => b"BadByte",
+    }
+}
+
+/// The note of a wrong word.
+fn words_note(fault: &WordFault) -> Line
+    ensures { Some result.items ≡ note_line_of (Outcome.BadWords fault.now) }
+{
+    let mut line = fixed(b"palp: word ");
+    put_number(&mut line, fault.index);
+    put(&mut line, b": ");
+    put(&mut line, word_kind(fault.kind));
+    put(&mut line, b"\n");
+    line
+}
+
+/// The note of a fault of a text.
+fn text_note(fault: &TextFault) -> Line
+    ensures { Some result.items ≡ note_line_of (Outcome.BadText fault.now) }
+{
+    let mut line = fixed(b"palp: line ");
+    put_number(&mut line, fault.line);
+    put(&mut line, b" column ");
+    put_number(&mut line, fault.column);
+    put(&mut line, b": ");
+    put(&mut line, text_kind(fault.kind));
+    put(&mut line, b"\n");
+    line
+}
+
+/// The note of a refusal.
+fn refusal_note(item: u64, cause: &Refusal) -> Line
+    ensures { Some result.items ≡ note_line_of (Outcome.Refused item cause.now) }
+{
+    let mut line = fixed(b"palp: item ");
+    put_number(&mut line, item);
+    put(&mut line, b": ");
+    put_refusal(&mut line, cause);
+    put(&mut line, b"\n");
+    line
 }
 
 /// A line of the given text.
@@ -112,14 +193,10 @@ pub(crate) fn note_line(outcome: &Outcome) -> Option<Line>
 {
     match outcome {
         Outcome::Done => None,
-        Outcome::Refused { item, cause } => {
-            let mut line = fixed(b"palp: item ");
-            put_number(&mut line, *item);
-            put(&mut line, b": ");
-            put_refusal(&mut line, cause);
-            put(&mut line, b"\n");
-            Some(line)
-        }
+        Outcome::BadWords(fault) => Some(words_note(fault)),
+        Outcome::BadText(fault) => Some(text_note(fault)),
+        Outcome::Refused { item, cause } => Some(refusal_note(*item, cause)),
+        Outcome::TextLimit => Some(fixed(b"palp: text limit\n")),
         Outcome::NotBuilt => Some(fixed(b"palp: not built\n")),
         Outcome::ReadFault => Some(fixed(b"palp: read fault\n")),
         Outcome::WriteFault => Some(fixed(b"palp: write fault\n")),

@@ -3,15 +3,23 @@
 ghost use Rattle.std.specs.Prelude.{◌≡◌};
 
 use lattice_core::Refusal;
+use palp_input::TextFault;
+use palp_words::WordFault;
 
 /// How a run ended.
 #[derive(Debug, Drop)]
 pub enum Outcome {
     /// The whole report was given, and the source was read to its end.
     Done,
+    /// A word of the command line is wrong.
+    BadWords(WordFault),
+    /// The text is faulty behind the items that were reported.
+    BadText(TextFault),
     /// An item was refused: its number, counted from 1, and the cause.
     Refused { item: u64, cause: Refusal },
-    /// The command isn't built yet, or the text isn't of the form that is read so far.
+    /// The text has more than 67,108,864 bytes, and the items that end within that many were reported.
+    TextLimit,
+    /// The command isn't built yet.
     NotBuilt,
     /// The source failed.
     ReadFault,
@@ -24,14 +32,18 @@ pub enum Outcome {
 impl Outcome {
     ghost use Rattle.palp_engine.specs.Statuses.{status};
 
-    /// The exit status: 0 for `Done`, 1 for `NoMemory`, 4 for `Refused`, 6 for `ReadFault`, 7 for `WriteFault` and 8 for `NotBuilt`.
+    /// The exit status: 0 for `Done`, 1 for `NoMemory`, 2 for `BadWords`, 3 for `BadText`, 4 for `Refused`, 5 for `TextLimit`, 6 for
+    /// `ReadFault`, 7 for `WriteFault` and 8 for `NotBuilt`.
     pub fn code(&self) -> u8
         ensures { result ≡ status self.now }
     {
         match self {
             Outcome::Done => 0,
             Outcome::NoMemory => 1,
+            Outcome::BadWords(_) => 2,
+            Outcome::BadText(_) => 3,
             Outcome::Refused { .. } => 4,
+            Outcome::TextLimit => 5,
             Outcome::ReadFault => 6,
             Outcome::WriteFault => 7,
             Outcome::NotBuilt => 8,

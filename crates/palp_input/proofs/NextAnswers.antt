@@ -188,6 +188,9 @@ ends_line held end (inr e) inside = e
 nothing_taken : (a b c : ℕ) → a + b ≤ c → a + b + 0 ≤ c
 nothing_taken a b c h = omega arith
 
+at_least : (n : ℕ) → n ≤ n
+at_least n = omega arith
+
 module _ (before now : ReaderState) (left : Option (List ℕ)) (taken : List ℕ) (ended : Bool) (faults : ℕ)
     (most : before.bytes + length before.held ≤ most_bytes + 1) where
   pub held_answer : (item : Item) → IsHeldItem (record before { live = false }) now item → NextMeans (Ok (Some item)) before now left taken left taken ended faults faults
@@ -195,6 +198,7 @@ module _ (before now : ReaderState) (left : Option (List ℕ)) (taken : List ℕ
     bytes = [];
     passes = Passes-none left taken;
     most = nothing_taken before.bytes (length before.held) (most_bytes + 1) most;
+    later = at_least faults;
     answer = gives_item before now [] before.held left left ended item h.end (append-nil before.held) h.some (omega (arith, h.inside)) h.within h.is_next h.passed
         (held_next before (listed item) h.end h.inside h.within h.is_next left)
         (λ no_end. absurd (no_end (ends_line before.held h.end h.line_ends h.inside)));
@@ -209,6 +213,7 @@ module _ (before now : ReaderState) (left : Option (List ℕ)) (taken : List ℕ
     bytes = [];
     passes = Passes-none left taken;
     most = nothing_taken before.bytes (length before.held) (most_bytes + 1) most;
+    later = at_least faults;
     answer = ap (λ (s : ReaderState). s.live) h;
   }
 
@@ -308,6 +313,7 @@ last_answer before begun held now result left taken left_now taken_now ended fau
       bytes = t.bytes;
       passes = t.passes;
       most = subst (λ (s : ReaderState). s.bytes + length s.held + length t.bytes ≤ most_bytes + 1) b t.most;
+      later = t.later;
       answer = last_means before t.bytes left taken left_now taken_now ended faults_before faults_now passed_most t.passes
           (stopped_is before held t.bytes left_now ended all t.stop.1) result now (subst (λ (s : ReaderState). LastMeans result s now) all h);
     }

@@ -104,13 +104,14 @@ AnswerMeans (Err TooLong) before now bytes left left_now ended faults_before fau
 AnswerMeans (Err Read) before now bytes left left_now ended faults_before faults_now = GivesRead now faults_before faults_now
 AnswerMeans (Err NoMemory) before now bytes left left_now ended faults_before faults_now = now.live ≡ false
 
--- a call: the bytes that it took, and what its answer means
+-- a call: the bytes that it took, the source's faults, whose count never falls, and what its answer means
 pub record NextMeans (result : Result (Option Item) NextFault) (before now : ReaderState)
     (left_before : Option (List ℕ)) (taken_before : List ℕ) (left_now : Option (List ℕ)) (taken_now : List ℕ)
     (ended_now : Bool) (faults_before faults_now : ℕ) : Type 0 where
   pub bytes : List ℕ
   pub passes : Passes left_before taken_before left_now taken_now bytes
   pub most : before.bytes + length before.held + length bytes ≤ most_bytes + 1
+  pub later : faults_before ≤ faults_now
   pub answer : AnswerMeans result before now bytes left_before left_now ended_now faults_before faults_now
 
 -- the reader after an item of this end
@@ -156,6 +157,7 @@ pub record TakeAllMeans (result : Result (Unit {0}) NextFault) (before now : Rea
   pub bytes : List ℕ
   pub passes : Passes left_before taken_before left_now taken_now bytes
   pub most : before.bytes + length before.held + length bytes ≤ most_bytes + 1
+  pub later : faults_before ≤ faults_now
   pub stop : StopMeans result before now bytes left_now ended_now faults_before faults_now
 
 -- bytes that are appended to others, as many as there is room for
@@ -172,6 +174,7 @@ pub record TakeIntoMeans (result : Result (Unit {0}) NextFault) (before now : Li
   pub bytes : List ℕ
   pub passes : Passes left_before taken_before left_now taken_now bytes
   pub most : length bytes ≤ room
+  pub later : faults_before ≤ faults_now
   pub append : AppendMeans result before now bytes room left_now ended_now faults_before faults_now
 
 -- an item of the bytes held

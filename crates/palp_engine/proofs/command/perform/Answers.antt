@@ -1,22 +1,19 @@
-use Rattle.std.specs.Prelude.{ℕ, List, map, take}
-use Rattle.std.specs.String.{string_bytes}
-use Rattle.std.proofs.Common.{rules}
-use Rattle.palp_engine.specs.Runs.{Intake, Output, IsPlainPoly}
-use Rattle.palp_engine.proofs.RunMeanings.{report_is_run, taken_run}
+use Rattle.palp_engine.specs.Runs.{Intake}
+use Rattle.palp_engine.specs.Sessions.{Output}
+use Rattle.palp_engine.proofs.RunMeanings.{report_performs, nothing_performed}
 use Rattle.palp_engine.proofs.command.perform.Goals as goal
 
-pub returns-in-Whole : goal.returns-in-Whole
-returns-in-Whole g c =
-    let words : List (List ℕ) = map (λ w. string_bytes w) c.args.words.now in
+pub returns-in-Ok : goal.returns-in-Ok
+returns-in-Ok g c =
     let source : Intake = record {
       left_before = g.S.Source.left c.args.src.now;
       taken_before = g.S.Source.taken c.args.src.now;
       ended_before = g.S.Source.ended c.args.src.now;
       faults_before = g.S.Source.faults c.args.src.now;
-      left_now = g.S.Source.left c.fill.new.src;
-      taken_now = g.S.Source.taken c.fill.new.src;
-      ended_now = g.S.Source.ended c.fill.new.src;
-      faults_now = g.S.Source.faults c.fill.new.src;
+      left_now = g.S.Source.left c.read_all.new.src;
+      taken_now = g.S.Source.taken c.read_all.new.src;
+      ended_now = g.S.Source.ended c.read_all.new.src;
+      faults_now = g.S.Source.faults c.read_all.new.src;
     } in
     let out : Output = record {
       given_before = g.O.Sink.given c.args.out.now;
@@ -24,10 +21,19 @@ returns-in-Whole g c =
       given_now = g.O.Sink.given c.report.new.out;
       faults_now = g.O.Sink.faults c.report.new.out;
     } in
-    let filled = c.in-Whole.ensures.filled in
-    let means = c.in-Whole.ensures.means in
-    let command : IsPlainPoly words = search rules in
-    record {
-      run = taken_run words source out c.fill.new.buffer c.in-Whole.length c.report.result means.0 (rw filled.count_is at filled.passes)
-          (report_is_run words source out (take c.in-Whole.length c.fill.new.buffer) c.report.result command (record { ended = means.1; nothing_left = means.2 }) c.report.ensures);
-    }
+    report_performs source out c.in-Ok.reading.items.items c.in-Ok.reading.ending c.in-Ok.ensures.means c.report.result c.in-Ok.ensures.taking
+    (rw c.deref.ensures.value at c.report.ensures)
+
+pub returns-in-Err-NoMemory : goal.returns-in-Err-NoMemory
+returns-in-Err-NoMemory g c =
+    let source : Intake = record {
+      left_before = g.S.Source.left c.args.src.now;
+      taken_before = g.S.Source.taken c.args.src.now;
+      ended_before = g.S.Source.ended c.args.src.now;
+      faults_before = g.S.Source.faults c.args.src.now;
+      left_now = g.S.Source.left c.read_all.new.src;
+      taken_now = g.S.Source.taken c.read_all.new.src;
+      ended_now = g.S.Source.ended c.read_all.new.src;
+      faults_now = g.S.Source.faults c.read_all.new.src;
+    } in
+    nothing_performed source _ _ _ c.in-Err-NoMemory.ensures.taking

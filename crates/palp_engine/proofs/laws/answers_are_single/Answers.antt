@@ -1,5 +1,28 @@
-use Rattle.palp_engine.proofs.SingleAnswers.{one_reading, one_line, one_refusal, line_or_refusal}
+use Rattle.palp_engine.proofs.SingleAnswers.{one_line, one_refusal, line_or_refusal}
+use Rattle.palp_engine.proofs.SingleItems.{one_piece, one_item_refusal, piece_or_refusal}
+use Rattle.palp_engine.proofs.SingleReports.{one_report, fronts_are_fronts}
 use Rattle.palp_engine.proofs.laws.answers_are_single.Goals as goal
 
-pub returns : goal.returns
-returns c = record { reading = one_reading; line = one_line; refusal = one_refusal; apart = line_or_refusal }
+pub returns-clause-line : goal.returns-clause-line
+returns-clause-line c = one_line
+
+pub returns-clause-refusal : goal.returns-clause-refusal
+returns-clause-refusal c = one_refusal
+
+pub returns-clause-apart : goal.returns-clause-apart
+returns-clause-apart c = line_or_refusal
+
+pub returns-clause-piece : goal.returns-clause-piece
+returns-clause-piece c = one_piece
+
+pub returns-clause-item_refusal : goal.returns-clause-item_refusal
+returns-clause-item_refusal c = one_item_refusal
+
+pub returns-clause-item_apart : goal.returns-clause-item_apart
+returns-clause-item_apart c = piece_or_refusal
+
+pub returns-clause-report : goal.returns-clause-report
+returns-clause-report c = one_report
+
+pub returns-clause-front : goal.returns-clause-front
+returns-clause-front c = fronts_are_fronts

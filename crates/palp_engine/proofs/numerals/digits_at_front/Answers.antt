@@ -1,6 +1,0 @@
-use Rattle.std.proofs.lemmas.Int.Digits.{digits_more}
-use Rattle.palp_engine.proofs.numerals.digits_at_front.Goals as goal
-
-pub loop-i-preserved : goal.loop-i-preserved
-loop-i-preserved c =
-    digits_more 10 c.args.text.now c.loop-i.i c.loop-i-test.true c.loop-i.invariant c.if-not-is_ascii_digit.ensures.bound

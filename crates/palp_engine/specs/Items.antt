@@ -1,0 +1,53 @@
+-- The piece of an item in the report of `poly -n`, or why the item is refused. This project's own.
+use Rattle.std.specs.Prelude.{◌≡◌, ◌⊎◌, ℕ, List, [], ◌∷◌, ◌++◌, ℤ, codes}
+use Rattle.std.specs.Fmt.{decimal}
+use Rattle.std.specs.List.{flat_map}
+use Rattle.lattice_core.specs.Weights.{Weighted}
+use Rattle.lattice_core.specs.declared.faults.Refusal.{Refusal}
+use Rattle.palp_input.specs.Grammar.{Listed, ListedWeights, ListedPoints}
+use Rattle.palp_engine.specs.Matrices.{AreMatrixPoints, IsMatrixRefusal}
+use Rattle.palp_engine.specs.WeightLines.{AreWeightPoints, IsWeightRefusal}
+use Rattle.palp_engine.specs.Reports.{IsBodyLine, IsRefused}
+
+-- an item that is within the limits before its points' hull has these points, of dimension n
+abbrev pub HasPoints : Listed → ℕ → List (List ℤ) → Type 0
+HasPoints (ListedWeights systems) n points = AreWeightPoints systems n points
+HasPoints (ListedPoints lines columns entries) n points = AreMatrixPoints lines columns entries n points
+
+-- why an item is refused before its points' hull
+abbrev pub IsInputRefusal : Listed → Refusal → Type 0
+IsInputRefusal (ListedWeights systems) cause = IsWeightRefusal systems cause
+IsInputRefusal (ListedPoints lines columns entries) cause = IsMatrixRefusal lines columns cause
+
+-- why an item with points is refused
+pub record IsHullRefusal (item : Listed) (cause : Refusal) : Type 0 where
+  pub n : ℕ
+  pub points : List (List ℤ)
+  pub has_points : HasPoints item n points
+  pub refused : IsRefused n points cause
+
+-- why an item is refused
+abbrev pub IsItemRefused : Listed → Refusal → Type 0
+IsItemRefused item cause = IsInputRefusal item cause ⊎ IsHullRefusal item cause
+
+-- the numbers of a weight line, in order: each degree with its weights behind it
+abbrev pub line_numbers : List Weighted → List ℕ
+line_numbers systems = flat_map (λ (s : Weighted). s.degree ∷ s.weights) systems
+
+-- numbers, each with a space behind it
+abbrev pub numbers_text : List ℕ → List ℕ
+numbers_text numbers = flat_map (λ (k : ℕ). decimal k ++ codes " ") numbers
+
+-- what stands in front of the body line: the numbers of a weight line
+abbrev pub echo : Listed → List ℕ
+echo (ListedWeights systems) = numbers_text (line_numbers systems)
+echo (ListedPoints lines columns entries) = []
+
+-- the item isn't refused, and this is its piece of the report
+pub record IsPiece (item : Listed) (piece : List ℕ) : Type 0 where
+  pub n : ℕ
+  pub points : List (List ℤ)
+  pub has_points : HasPoints item n points
+  pub line : List ℕ
+  pub is_line : IsBodyLine n points line
+  pub written : piece ≡ echo item ++ line

@@ -1,0 +1,157 @@
+//! A session, and the report of one item.
+
+ghost use Rattle.std.specs.Prelude.{◌≡◌, ◌++◌, ◌<◌, ◌≤◌, IfOk, OnOk, MatchResult, length};
+ghost use Rattle.lattice_theory.specs.Vector.{HaveDimension};
+ghost use Rattle.lattice_core.specs.Dimensions.{dimension_of};
+ghost use Rattle.lattice_core.specs.Weights.{weighted_all};
+ghost use Rattle.palp_input.specs.Grammar.{listed};
+ghost use Rattle.palp_input.specs.Laws.{IsItem};
+ghost use Rattle.palp_engine.specs.Commands.{IsBuilt};
+ghost use Rattle.palp_engine.specs.Items.{HasPoints, IsPiece, echo, line_numbers, numbers_text};
+ghost use Rattle.palp_engine.specs.Stops.{StopsInput, StopsItem};
+ghost use Rattle.palp_engine.specs.Sessions.{ItemMeans};
+
+use crate::matrices::matrix_points;
+use crate::polytopes::body_of;
+use crate::weights::weight_points;
+use itoa::Buffer;
+use lattice_core::{Fault, NoMemory, Point, Refusal, WeightSystem};
+use palp_input::Item;
+use palp_io::{Gave, Sink};
+use palp_words::Job;
+use std::alloc::Global;
+use std::marker::Model;
+
+/// Why the report of an item isn't given whole.
+#[derive(Clone, Debug, Drop, PartialEq, Eq)]
+pub enum ItemFault {
+    /// The item is refused.
+    Refused(Refusal),
+    /// The sink failed.
+    Write,
+    /// There was no memory.
+    NoMemory,
+}
+
+impl From<Fault> for ItemFault {
+    ghost use Rattle.palp_engine.specs.Stops.{IsItemStop};
+
+    ghost from_gives = { λ fault item. IsItemStop fault item };
+
+    fn from(fault: Fault) -> ItemFault {
+        match fault {
+            Fault::Refused(cause) => ItemFault::Refused(cause),
+            Fault::NoMemory => ItemFault::NoMemory,
+        }
+    }
+}
+
+/// What is kept between the reports of items: the page on which an item's piece is written.
+#[derive(Drop)]
+pub struct Session {
+    alloc: Global,
+    page: Vec<u8>,
+}
+
+impl Model for Session {
+    ghost Value = { Unit {0} };
+
+    ghost view = { λ _. tt };
+}
+
+impl Session {
+    /// A session that has reported nothing.
+    pub fn open(alloc: Global) -> Result<Session, NoMemory> {
+        Ok(Session {
+            alloc,
+            page: Vec::with_capacity(alloc, 512)?,
+        })
+    }
+}
+
+/// Appends numbers, each with a space behind it.
+fn put_numbers(page: &mut Vec<u8>, numbers: &[u64]) -> Result<(), NoMemory>
+    ensures { OnOk result (page.new.items ≡ page.old.items ++ numbers_text numbers.now) }
+{
+    for number in numbers {
+        let mut buffer = Buffer::new();
+        page.extend_from_slice(buffer.format(*number).as_bytes())?;
+        page.push(b' ')?;
+    }
+    Ok(())
+}
+
+/// Appends the numbers of a weight line.
+fn put_systems(page: &mut Vec<u8>, systems: &[WeightSystem]) -> Result<(), NoMemory>
+    ensures { OnOk result (page.new.items ≡ page.old.items ++ numbers_text (line_numbers (weighted_all systems.now))) }
+{
+    for system in systems {
+        put_numbers(page, &[system.degree])?;
+        put_numbers(page, &system.weights)?;
+    }
+    Ok(())
+}
+
+/// Appends what stands in front of the body line.
+fn put_echo(page: &mut Vec<u8>, item: &Item) -> Result<(), NoMemory>
+    ensures { OnOk result (page.new.items ≡ page.old.items ++ echo (listed item.now)) }
+{
+    match item {
+        Item::Weights(systems) => put_systems(page, systems),
+        Item::Points(_) => Ok(()),
+    }
+}
+
+/// The points of an item, or its refusal.
+fn points_of(alloc: Global, item: &Item) -> Result<Vec<Point>, Fault>
+    requires { IsItem (listed item.now) }
+    ensures points { MatchResult result (λ points. HasPoints (listed item.now) (dimension_of points.items) points.items) (StopsInput (listed item.now)) }
+    ensures some { IfOk result (λ points. 0 < length points.items) }
+    ensures least { IfOk result (λ points. 1 ≤ dimension_of points.items) }
+    ensures most { IfOk result (λ points. dimension_of points.items ≤ 6) }
+    ensures dimension { IfOk result (λ points. HaveDimension (dimension_of points.items) points.items) }
+{
+    match item {
+        Item::Weights(systems) => weight_points(alloc, systems),
+        Item::Points(matrix) => matrix_points(alloc, matrix),
+    }
+}
+
+/// Writes the piece of an item on a page, in place of what stood there, or answers its refusal.
+fn write_piece(alloc: Global, page: &mut Vec<u8>, item: &Item) -> Result<(), Fault>
+    requires { IsItem (listed item.now) }
+    ensures { MatchResult result (λ _. IsPiece (listed item.now) page.new.items) (StopsItem (listed item.now)) }
+{
+    page.clear();
+    put_echo(page, item)?;
+    let points = points_of(alloc, item)?;
+    let line = body_of(alloc, &points)?;
+    page.extend_from_slice(line.as_slice())?;
+    Ok(())
+}
+
+/// Gives the piece of one item to `out`: for a weight line its numbers, then the numbers of lattice points, vertices and facets. The job
+/// is `poly` with `-n` alone, and the item is one of a text. It is refused exactly by its first cause. `Write` comes only where the count
+/// of faults of `out` rose in this call, and then a front of the piece was appended; otherwise nothing is. After every answer the session
+/// serves a next item.
+pub fn report_item<O: Sink>(
+    session: &mut Session,
+    _job: &Job,
+    item: &Item,
+    out: &mut O,
+) -> Result<(), ItemFault>
+    requires job { IsBuilt _job.now }
+    requires item { IsItem (listed item.now) }
+    ensures { ItemMeans result (listed item.now) (record {
+      given_before = O.given out.old;
+      faults_before = O.faults out.old;
+      given_now = O.given out.new;
+      faults_now = O.faults out.new;
+    }) }
+{
+    write_piece(session.alloc, &mut session.page, item)?;
+    match out.give(&session.page) {
+        Gave::All => Ok(()),
+        Gave::Failed => Err(ItemFault::Write),
+    }
+}
