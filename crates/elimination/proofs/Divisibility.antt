@@ -5,7 +5,7 @@ use Rattle.std.proofs.lemmas.Int.{ints}
 use Rattle.lattice_theory.specs.Vector.{dot, scaled, DividesInteger, IsPrimitive}
 use Rattle.lattice_theory.proofs.Divisors.{divides_one}
 use Rattle.lattice_theory.proofs.Integers.{products_out, linear, cancel_left, one-*ℤ, *ℤ-one, neg-*ℤ, *ℤ-neg, *ℤ_assoc, *ℤ_comm, positive_nonzero}
-use Rattle.elimination.proofs.Members.{Each, empty, more, each_from_all, all_from_each, each_head, each_tail}
+use Rattle.lattice_theory.proofs.Members.{Each, empty, more, each_from_all, all_from_each, each_head, each_tail}
 use Rattle.elimination.proofs.Vectors.{dot-scaled_left, dot-scaled_right, scaled-one}
 
 -- what d divides is closed under sums, multiples and negation
@@ -95,7 +95,7 @@ pub record HasGcd (x : List ℤ) (g : ℕ) : Type 0 where
   pub divides : Each (DividesInteger g) x
 
 -- a divisor of a divisor divides
-divides_through : (d e : ℕ) (a : ℤ) → DividesInteger d (pos e) → DividesInteger e a → DividesInteger d a
+pub divides_through : (d e : ℕ) (a : ℤ) → DividesInteger d (pos e) → DividesInteger e a → DividesInteger d a
 divides_through d e a h (k, f) = subst (DividesInteger d) f (divides_multiple d k (pos e) h)
 
 -- the same for each entry of a vector

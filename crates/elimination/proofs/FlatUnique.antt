@@ -7,7 +7,7 @@ use Rattle.std.proofs.lemmas.List.Elements.{All-contains}
 use Rattle.lattice_theory.specs.Vector.{entry, dot, scaled, EndsAt}
 use Rattle.lattice_theory.specs.Affine.{Affine, value, Vanishes}
 use Rattle.lattice_theory.specs.Facet.{IsFlatFunction}
-use Rattle.lattice_theory.proofs.Integers.{products_out, linear, positive_nonzero}
+use Rattle.lattice_theory.proofs.Integers.{products_out, linear, positive_nonzero, zero_terms}
 use Rattle.elimination.proofs.Vectors.{combined, dot-combined_left, length-combined, entry-scaled, entry-combined, same_from_entries, zero_or_ends, length-scaled}
 use Rattle.elimination.proofs.Divisibility.{primitive_same}
 
@@ -23,11 +23,8 @@ blend_value : (p : ℤ) (f : Affine) (q : ℤ) (g : Affine) (x : List ℤ) → v
 blend_value p f q g x = rw (dot-combined_left p f.normal q g.normal x) (regroup p q (dot f.normal x) (dot g.normal x) f.constant g.constant)
 
 -- it vanishes where both do
-both_zero : (p q a b : ℤ) → a ≡ pos 0 → b ≡ pos 0 → p *ℤ a +ℤ q *ℤ b ≡ pos 0
-both_zero p q a b h k = rw (h, k) (simp products_out)
-
 blend_vanishes : (points : List (List ℤ)) (p : ℤ) (f : Affine) (q : ℤ) (g : Affine) → Vanishes points f → Vanishes points g → Vanishes points (blend p f q g)
-blend_vanishes points p f q g h k i d within = blend_value p f q g _ ∙ both_zero p q _ _ (h i d within) (k i d within)
+blend_vanishes points p f q g h k i d within = blend_value p f q g _ ∙ zero_terms p q _ _ (h i d within) (k i d within)
 
 -- the entries of two flat functions where both end
 cross : (a b : ℤ) → b *ℤ a +ℤ neg_ℤ a *ℤ b ≡ pos 0
@@ -48,7 +45,7 @@ same_place n points f g hf hg =
 late_zero : (f g : List ℤ) (k j : ℕ) → EndsAt f k → EndsAt g k → k ≤ j → entry (combined (entry g k) f (neg_ℤ (entry f k)) g) j ≡ pos 0
 late_zero f g k j ends_f ends_g late =
     entry-combined (entry g k) f (neg_ℤ (entry f k)) g j ∙ ⊎_elim
-    (λ (beyond : k < j). both_zero (entry g k) (neg_ℤ (entry f k)) _ _ (ends_f.zeros j beyond) (ends_g.zeros j beyond))
+    (λ (beyond : k < j). zero_terms (entry g k) (neg_ℤ (entry f k)) _ _ (ends_f.zeros j beyond) (ends_g.zeros j beyond))
     (λ (upto : j ≤ k). let same : j ≡ k = omega arith in rw same (cross (entry f k) (entry g k)))
     (cases_lt k j)
 

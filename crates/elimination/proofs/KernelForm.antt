@@ -3,7 +3,7 @@ use Rattle.std.proofs.Common.{◌≡◌, ◌≢◌, ℕ, suc, ◌<◌, List, [],
 use Rattle.lattice_theory.specs.Vector.{entry, dot, EndsAt}
 use Rattle.elimination.specs.Elimination.{Member, Annihilates, AreApart, pairings, IsCombination, IsKernel}
 use Rattle.lattice_theory.proofs.Integers.{linear, neg-*ℤ, positive_nonzero, positive_or_negative, positive_is}
-use Rattle.elimination.proofs.Members.{Each, empty, more, each_from_all, all_from_each, each_head, each_tail, each_weaker}
+use Rattle.lattice_theory.proofs.Members.{Each, empty, more, each_from_all, all_from_each, each_head, each_tail, each_weaker}
 
 -- g pairs to 0 with each of the vectors
 abbrev pub Kills : List (List ℤ) → List ℤ → Type 0

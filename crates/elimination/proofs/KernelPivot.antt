@@ -4,7 +4,7 @@ use Rattle.std.proofs.lemmas.Bool.{cases_lt}
 use Rattle.lattice_theory.specs.Vector.{dot}
 use Rattle.elimination.specs.Elimination.{Member, pairings, IsCombination}
 use Rattle.lattice_theory.proofs.Integers.{linear, zero_or_not}
-use Rattle.elimination.proofs.Members.{Each, empty, more, each_head, each_tail, each_weaker}
+use Rattle.lattice_theory.proofs.Members.{Each, empty, more, each_head, each_tail, each_weaker}
 use Rattle.elimination.proofs.KernelForm.{IsApart, Apart, one_more, Kernel, apart_head, apart_tail}
 
 -- what holds of each member, with the member p moved to the head and back

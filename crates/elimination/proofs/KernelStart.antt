@@ -4,7 +4,7 @@ use Rattle.std.proofs.Common.{⊎_elim, ◌≡◌, ◌≢◌, ℕ, zero, suc, �
 use Rattle.lattice_theory.specs.Vector.{entry, dot}
 use Rattle.elimination.specs.Elimination.{Member, pairings, ArePivots, IsUnit}
 use Rattle.lattice_theory.proofs.Integers.{products_out, linear}
-use Rattle.elimination.proofs.Members.{Each, empty, more}
+use Rattle.lattice_theory.proofs.Members.{Each, empty, more}
 use Rattle.elimination.proofs.Vectors.{zeros, length-zeros, entry-zeros, dot-zeros, same_from_entries}
 use Rattle.elimination.proofs.KernelForm.{IsMember, IsApart, Apart, none, one_more, Kernel, kernel_out}
 

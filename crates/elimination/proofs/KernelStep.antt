@@ -3,7 +3,7 @@ use Rattle.std.proofs.Common.{◌≡◌, ◌≢◌, ℕ, suc, ◌<◌, ◌≤◌
 use Rattle.lattice_theory.specs.Vector.{entry, dot}
 use Rattle.elimination.specs.Elimination.{Member, pairings, IsCombination}
 use Rattle.lattice_theory.proofs.Integers.{products_out, linear, product_nonzero, factor_zero, positive_nonzero, *ℤ-zero}
-use Rattle.elimination.proofs.Members.{Each, empty, more, each_head, each_tail, each_push, each_left, each_right}
+use Rattle.lattice_theory.proofs.Members.{Each, empty, more, each_head, each_tail, each_push, each_left, each_right}
 use Rattle.elimination.proofs.KernelForm.{Kills, IsMember, IsApart, Apart, none, one_more, Kernel, apart_head, apart_tail, combination_from}
 
 -- l is what the step with the vector v and the pivot p makes of k: f l = <p,v> k - <k,v> p

@@ -1,4 +1,3 @@
-pub mod Members
 pub mod Vectors
 pub mod Divisibility
 pub mod KernelForm

@@ -1,10 +1,11 @@
 -- Vectors: sums and multiples, and the pairing, which is symmetric and linear in each argument whatever the lengths.
-use Rattle.std.proofs.Common.{◌≡◌, ℕ, zero, suc, ◌<◌, ◌≤◌, List, [], ◌∷◌, length, ℤ, pos, ◌+ℤ◌, ◌*ℤ◌, refl, sym, ap, ap₂, ◌∙◌, arith, le_of_suc-le-suc, suc-le-suc, zero-lt-suc, ⊎_elim, ◌≢◌, ◌⊎◌, inl, inr}
+use Rattle.std.proofs.Common.{◌≡◌, ℕ, zero, suc, ◌<◌, ◌≤◌, List, [], ◌∷◌, ◌++◌, length, ℤ, pos, ◌+ℤ◌, ◌*ℤ◌, refl, sym, ap, ap₂, ◌∙◌, arith, le_of_suc-le-suc, suc-le-suc, zero-lt-suc, ⊎_elim, ◌≢◌, ◌⊎◌, inl, inr}
 use Rattle.lattice_theory.specs.Vector.{entry, dot, scaled, EndsAt}
 use Rattle.std.specs.List.{All}
 use Rattle.std.proofs.lemmas.Bool.{cases_lt}
 use Rattle.lattice_theory.proofs.Integers.{products_out, linear, zero_or_not, one-*ℤ, *ℤ_assoc}
-use Rattle.elimination.proofs.Members.{Each, empty, more, all_from_each, each_from_all}
+use Rattle.lattice_theory.proofs.Members.{Each, empty, more, all_from_each, each_from_all}
+use Rattle.std.proofs.lemmas.List.{get_or_append_left, get_or_push}
 
 -- the sum of two vectors; the shorter one is read with entries 0
 abbrev pub add : List ℤ → List ℤ → List ℤ
@@ -229,3 +230,11 @@ nonzero_entry x n = ⊎_elim (λ (z : (i : ℕ) → entry x i ≡ pos 0). absurd
 -- a place with an entry that isn't 0 is within the length
 pub place_within : (x : List ℤ) (i : ℕ) → entry x i ≢ pos 0 → i < length x
 place_within x i n = ⊎_elim (λ h. h) (λ (h : length x ≤ i). absurd (n (entry_past x i h))) (cases_lt i (length x))
+
+-- one more entry: the earlier ones
+pub entry_before : (xs : List ℤ) (y : ℤ) (k : ℕ) → k < length xs → entry (xs ++ (y ∷ [])) k ≡ entry xs k
+entry_before xs y k h = get_or_append_left xs (y ∷ []) (pos 0) k h
+
+-- and itself
+pub entry_last : (xs : List ℤ) (y : ℤ) (i : ℕ) → length xs ≡ i → entry (xs ++ (y ∷ [])) i ≡ y
+entry_last xs y i e = get_or_push xs y (pos 0) i e

@@ -5,7 +5,7 @@ use Rattle.lattice_theory.specs.Vector.{dot, scaled, IsPrimitive}
 use Rattle.lattice_theory.specs.Affine.{Affine, value, IsNonnegative, IsMultiple}
 use Rattle.lattice_theory.specs.Facet.{IsFacet}
 use Rattle.lattice_theory.proofs.Integers.{products_out, linear, cancel_left, nonnegative_factor, *ℤ_assoc, *ℤ_comm, *ℤ-one, one-*ℤ}
-use Rattle.elimination.proofs.Members.{In, all_from_each}
+use Rattle.lattice_theory.proofs.Members.{In, all_from_each}
 use Rattle.elimination.proofs.Vectors.{dot-scaled_left, dot-scaled_right}
 use Rattle.elimination.proofs.Divisibility.{primitive_combination, primitive_nonzero, multiple_of_primitive, primitive_same}
 use Rattle.facet_theory.specs.Laws.{AreSolid, FacetsDiffer}

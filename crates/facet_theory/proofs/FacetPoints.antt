@@ -7,7 +7,7 @@ use Rattle.lattice_theory.specs.Affine.{Affine, value, Vanishes, IsMultiple}
 use Rattle.lattice_theory.specs.Facet.{IsFacet}
 use Rattle.elimination.specs.Elimination.{Annihilates}
 use Rattle.elimination.specs.Laws.{IsVectorMultiple}
-use Rattle.elimination.proofs.Members.{In, here, there, all_from_each, each_from_all, each_in, each_from_in, in_from_contains, contains_from_in}
+use Rattle.lattice_theory.proofs.Members.{In, here, there, all_from_each, each_from_all, each_in, each_from_in, in_from_contains, contains_from_in}
 use Rattle.elimination.proofs.Divisibility.{primitive_nonzero}
 use Rattle.facet_theory.specs.Laws.{FacetByPoints}
 use Rattle.elimination.proofs.KernelSize.{few_determine_lem}

@@ -5,7 +5,7 @@ use Rattle.lattice_theory.specs.Vector.{dot}
 use Rattle.lattice_theory.specs.Affine.{Affine, value_over}
 use Rattle.lattice_theory.specs.Facet.{IsFacet}
 use Rattle.lattice_theory.proofs.Integers.{products_out, linear, positive_is}
-use Rattle.elimination.proofs.Members.{In, here, there, Each, empty, more, all_from_each}
+use Rattle.lattice_theory.proofs.Members.{In, here, there, Each, empty, more, all_from_each}
 use Rattle.facet_theory.specs.Sums.{total_over, IsSumOfFacets}
 use Rattle.facet_theory.specs.Laws.{FacetsGenerate}
 use Rattle.facet_theory.proofs.Rays.{IsRay, IsSumOfRays, total, rays_generate}

@@ -7,8 +7,8 @@ use Rattle.lattice_theory.specs.Vector.{entry, dot}
 use Rattle.lattice_theory.specs.Affine.{Affine, value_over, IsNonnegative}
 use Rattle.lattice_theory.specs.Facet.{IsFacet}
 use Rattle.lattice_theory.specs.Hull.{InHull}
-use Rattle.lattice_theory.proofs.Integers.{linear, nonnegative_factor, positive_or_not, positive_pos, product_positive}
-use Rattle.elimination.proofs.Members.{In, here, Each, more, each_from_all, each_weaker, contains_from_in}
+use Rattle.lattice_theory.proofs.Integers.{linear, nonnegative_factor, positive_or_not, positive_pos, product_positive, difference_from, order_from}
+use Rattle.lattice_theory.proofs.Members.{In, here, Each, more, each_from_all, each_weaker, contains_from_in}
 use Rattle.elimination.proofs.Vectors.{zeros, length-zeros, dot-zeros, dot-nil, zero_from_entries, entry_past}
 use Rattle.facet_theory.specs.Sums.{total_over, IsSumOfFacets}
 use Rattle.facet_theory.specs.Laws.{HullByFacets, HullInBox, FacetsBound, SomePositiveConstant, AreSolid}
@@ -38,14 +38,6 @@ hull_by_facets_lem n points solid x l = (
       (sum_nonnegative n points f (facets_generate_lem n points solid f e nonnegative) x (pos 1)
       (λ g facet. nonnegative_same (sym (value_at_one g x)) (h g facet)))),
 )
-
--- the order by differences
-difference_from : (a b : ℤ) → a ≤ℤ b → pos 0 ≤ℤ (b -ℤ a)
-difference_from a b h = omega (arith, linear)
-
--- and back
-order_from : (a b : ℤ) → pos 0 ≤ℤ (b -ℤ a) → a ≤ℤ b
-order_from a b h = omega (arith, linear)
 
 -- the functions that say that the coordinate i is at least low, or at most high, at each point
 low_nonnegative : (n i : ℕ) (points : List (List ℤ)) (low : ℤ) → i < n → ((q : List ℤ) → In q points → low ≤ℤ entry q i) → IsNonnegative points (above_low n i low)

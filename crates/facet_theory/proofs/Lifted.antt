@@ -5,7 +5,7 @@ use Rattle.lattice_theory.specs.Affine.{Affine, value, value_over, IsNonnegative
 use Rattle.lattice_theory.specs.Facet.{IsFlat}
 use Rattle.elimination.specs.Laws.{IsVectorMultiple}
 use Rattle.lattice_theory.proofs.Integers.{products_out, linear}
-use Rattle.elimination.proofs.Members.{In, here, there, Each, more, all_from_each, each_from_all, each_in, each_from_in, in_from_contains, contains_from_in}
+use Rattle.lattice_theory.proofs.Members.{In, here, there, Each, more, all_from_each, each_from_all, each_in, each_from_in, in_from_contains, contains_from_in}
 use Rattle.elimination.proofs.Vectors.{unit, length-unit, entry-unit_same, zero_or_ends, zero_from_entries}
 use Rattle.facet_theory.specs.Laws.{AreSolid}
 use Rattle.facet_theory.proofs.Values.{dot-zero, IsAbove, VanishesAlong, IsSolid}

@@ -3,7 +3,7 @@ use Rattle.std.proofs.Common.{◌≡◌, List, [], ◌∷◌, length, ℤ, pos, 
 use Rattle.lattice_theory.specs.Affine.{Affine}
 use Rattle.lattice_theory.specs.Order.{LexLess, FunctionLess, Ascends}
 use Rattle.lattice_theory.proofs.Integers.{linear, positive_or_not}
-use Rattle.elimination.proofs.Members.{In, here, there, Each, empty, all_from_each, each_from_all, each_in, each_from_in, each_head, each_tail}
+use Rattle.lattice_theory.proofs.Members.{In, here, there, Each, empty, all_from_each, each_from_all, each_in, each_from_in, each_head, each_tail}
 
 -- how two members stand to each other
 pub data Compared {X : Type 0} (less : X → X → Type 0) (x y : X) : Type 0 where

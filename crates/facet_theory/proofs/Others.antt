@@ -1,8 +1,8 @@
 -- The points of a list other than one: who is among them.
-use Rattle.std.proofs.Common.{◌≡◌, ◌≢◌, Bool, true, false, not, ◌&&◌, cond, List, [], ◌∷◌, ℤ, pos, negsuc, ◌⊎◌, inl, inr, refl, sym, ap, ap₂, ◌∙◌, subst}
-use Rattle.std.proofs.lemmas.Bool.{eqb-true, eq-eqb}
+use Rattle.std.proofs.Common.{◌≡◌, ◌≢◌, Bool, true, false, not, cond, List, [], ◌∷◌, ℤ, pos, negsuc, ◌⊎◌, inl, inr, refl, sym, ap, ap₂, ◌∙◌, subst}
+use Rattle.std.proofs.lemmas.Bool.{eqb-true, eq-eqb, and_parts}
 use Rattle.lattice_theory.specs.Vector.{int_eq, vector_eq, others}
-use Rattle.elimination.proofs.Members.{In, here, there}
+use Rattle.lattice_theory.proofs.Members.{In, here, there}
 
 -- the tests of equality
 false_true : false ≡ true → ⊥
@@ -20,17 +20,12 @@ int_eq_refl : (a : ℤ) → int_eq a a ≡ true
 int_eq_refl (pos a) = eq-eqb a a refl
 int_eq_refl (negsuc a) = eq-eqb a a refl
 
--- both tests passed
-both_true : (a b : Bool) → (a && b) ≡ true → (a ≡ true) × (b ≡ true)
-both_true true b e = (refl, e)
-both_true false b e = absurd (false_true e)
-
 -- vectors that pass the test are equal
 pub vector_eq-true : (x y : List ℤ) → vector_eq x y ≡ true → x ≡ y
 vector_eq-true [] [] e = refl
 vector_eq-true [] (b ∷ y) e = absurd (false_true e)
 vector_eq-true (a ∷ x) [] e = absurd (false_true e)
-vector_eq-true (a ∷ x) (b ∷ y) e = let s = both_true (int_eq a b) (vector_eq x y) e in ap₂ (λ (c : ℤ) (z : List ℤ). c ∷ z) (int_eq-true a b s.0) (vector_eq-true x y s.1)
+vector_eq-true (a ∷ x) (b ∷ y) e = let s = and_parts (int_eq a b) (vector_eq x y) e in ap₂ (λ (c : ℤ) (z : List ℤ). c ∷ z) (int_eq-true a b s.0) (vector_eq-true x y s.1)
 
 -- a vector passes it with itself
 pub vector_eq_refl : (x : List ℤ) → vector_eq x x ≡ true

@@ -2,7 +2,7 @@
 use Rattle.std.proofs.Common.{◌≡◌, ◌≢◌, List, ℤ, pos, ◌+ℤ◌, ◌*ℤ◌, neg_ℤ, ◌≤ℤ◌, ◌<ℤ◌, subst, arith}
 use Rattle.lattice_theory.specs.Affine.{Affine, value, IsNonnegative}
 use Rattle.lattice_theory.proofs.Integers.{products_out, linear}
-use Rattle.elimination.proofs.Members.{In, all_from_each, each_from_all, each_in, each_from_in}
+use Rattle.lattice_theory.proofs.Members.{In, all_from_each, each_from_all, each_in, each_from_in}
 
 -- along an equation
 pub nonnegative_same : {a b : ℤ} → a ≡ b → pos 0 ≤ℤ a → pos 0 ≤ℤ b
@@ -35,10 +35,6 @@ zero_sum e e' = omega (arith, linear)
 -- nonnegative terms of a sum that is 0
 pub terms_zero : (a b : ℤ) → pos 0 ≤ℤ a → pos 0 ≤ℤ b → a +ℤ b ≡ pos 0 → (a ≡ pos 0) × (b ≡ pos 0)
 terms_zero a b h k e = (omega (arith, linear), omega (arith, linear))
-
--- products that are 0, and products that cancel
-pub zero_terms : (a b x y : ℤ) → x ≡ pos 0 → y ≡ pos 0 → a *ℤ x +ℤ b *ℤ y ≡ pos 0
-zero_terms a b x y p q = rw (p, q) (simp products_out)
 
 -- x y - y x
 pub cancelled : (x y : ℤ) → x *ℤ y +ℤ neg_ℤ y *ℤ x ≡ pos 0

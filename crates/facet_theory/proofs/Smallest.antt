@@ -2,7 +2,7 @@
 use Rattle.std.proofs.Common.{ℕ, ◌+◌, List, [], ◌∷◌, ℤ, pos, neg_ℤ, nat_abs, ◌≤ℤ◌, ◌<ℤ◌, ◌-ℤ◌, ◌⊎◌, inl, inr, arith}
 use Rattle.std.proofs.lemmas.Int.{ints}
 use Rattle.lattice_theory.proofs.Integers.{linear, negative_or_not}
-use Rattle.elimination.proofs.Members.{In, here, there}
+use Rattle.lattice_theory.proofs.Members.{In, here, there}
 
 -- a member at which g is least
 pub record Smallest {X : Type 0} (points : List X) (g : X → ℤ) : Type 0 where

@@ -1,11 +1,11 @@
 -- From a function f that is nonnegative on S and a function h that is 0 along f: a function a f - b h that is nonnegative too, and 0 at more vectors.
 use Rattle.std.proofs.Common.{◌≡◌, ◌≢◌, ℕ, ◌<◌, List, [], ◌∷◌, length, ℤ, pos, ◌+ℤ◌, ◌-ℤ◌, ◌*ℤ◌, neg_ℤ, ◌≤ℤ◌, ◌<ℤ◌, ◌⊎◌, inl, inr, sym, ap, ◌∙◌, arith}
 use Rattle.lattice_theory.specs.Vector.{dot, scaled}
-use Rattle.lattice_theory.proofs.Integers.{products_out, linear, positive_or_not, negative_or_not, product_nonnegative, product_positive, nonnegative_factor, positive_nonzero}
-use Rattle.elimination.proofs.Members.{In, here, there}
+use Rattle.lattice_theory.proofs.Integers.{products_out, linear, positive_or_not, negative_or_not, product_nonnegative, product_positive, nonnegative_factor, positive_nonzero, zero_terms}
+use Rattle.lattice_theory.proofs.Members.{In, here, there}
 use Rattle.elimination.proofs.Vectors.{combined, dot-combined_left, length-combined, dot-scaled_left, length-scaled}
 use Rattle.facet_theory.proofs.Values.{IsAbove, VanishesAlong, nonzeros, nonzeros_lt}
-use Rattle.facet_theory.proofs.Signs.{nonnegative_same, positive_from, positive_sum, zero_terms, cancelled}
+use Rattle.facet_theory.proofs.Signs.{nonnegative_same, positive_from, positive_sum, cancelled}
 
 -- a vector of S at which h is positive and the quotient f / h is least
 pub record Least (S : List (List ℤ)) (f h : List ℤ) : Type 0 where

@@ -2,7 +2,7 @@
 use Rattle.std.proofs.Common.{◌≡◌, ◌≢◌, ℕ, zero, suc, ◌+◌, ◌<◌, ◌≤◌, List, [], ◌∷◌, length, ℤ, pos, negsuc, ◌+ℤ◌, ◌*ℤ◌, ◌≤ℤ◌, ◌⊎◌, inl, inr, refl, arith}
 use Rattle.lattice_theory.specs.Vector.{dot}
 use Rattle.lattice_theory.proofs.Integers.{products_out, linear, zero_or_not}
-use Rattle.elimination.proofs.Members.{In, here, there, Each, more}
+use Rattle.lattice_theory.proofs.Members.{In, here, there, Each, more}
 
 -- a vector of entries 0 pairs to 0
 pub dot-zero : (x y : List ℤ) → Each (λ a. a ≡ pos 0) x → dot x y ≡ pos 0

@@ -5,7 +5,7 @@ use Rattle.lattice_theory.specs.Affine.{Affine, value, value_over, IsNonnegative
 use Rattle.lattice_theory.specs.Hull.{IsVertex}
 use Rattle.lattice_theory.specs.Facet.{IsFacet}
 use Rattle.lattice_theory.proofs.Integers.{linear, negative_or_not, zero_or_not, positive_pos, positive_nonzero, factor_zero, one-*ℤ, *ℤ-zero}
-use Rattle.elimination.proofs.Members.{In, here, there, Each, more, each_from_all, in_from_contains, contains_from_in, each_weaker}
+use Rattle.lattice_theory.proofs.Members.{In, here, there, Each, more, each_from_all, in_from_contains, contains_from_in, each_weaker}
 use Rattle.elimination.proofs.Vectors.{zeros, length-zeros, dot-zeros}
 use Rattle.facet_theory.specs.Sums.{total_over, IsSumOfFacets}
 use Rattle.facet_theory.specs.Laws.{AreSolid, VerticesByFacets}

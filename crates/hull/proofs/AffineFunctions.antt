@@ -10,7 +10,7 @@ use Rattle.elimination.specs.Elimination.{Member, Annihilates}
 use Rattle.elimination.specs.Laws.{IsVectorMultiple}
 use Rattle.elimination.proofs.KernelSize.{empty_kernel_lem, single_kernel_lem, large_kernel_lem}
 use Rattle.elimination.proofs.KernelPlaces.{kernel_earliest_lem}
-use Rattle.elimination.proofs.Members.{each_from_all, all_from_each}
+use Rattle.lattice_theory.proofs.Members.{each_from_all, all_from_each}
 use Rattle.elimination.proofs.Vectors.{length-scaled, entry-scaled, scaled-scaled, dot-scaled_left, dot-scaled_right, entries_from_zero, same_from_entries, zero_from_entries}
 use Rattle.elimination.proofs.Divisibility.{primitive_combination, primitive_from_combination, primitive_nonzero}
 use Rattle.normal_bounds.specs.Bounds.{IsFixedBy}

@@ -11,10 +11,6 @@ use Rattle.std.proofs.lemmas.Int.{ints, to_z-of_z, fits_signed_from_abs, fits_si
 pub product_exact : (a b : ℤ) → nat_abs a ≤ 2 ^ 63 → nat_abs b ≤ 2 ^ 63 → to_z w128 (of_z w128 (a *ℤ b)) ≡ a *ℤ b
 product_exact a b h k = to_z-of_z w128 (a *ℤ b) (fits_signed_mul w128 a b (2 ^ 63) (2 ^ 63) h k (omega arith))
 
--- a small number fits
-pub small_fits : (a : ℤ) → nat_abs a < 2 ^ 126 → SFits w128 a
-small_fits a h = fits_signed_from_abs w128 a (omega arith)
-
 -- so does a difference of two
 pub difference_fits : (a b : ℤ) → nat_abs a < 2 ^ 126 → nat_abs b < 2 ^ 126 → SFits w128 (a -ℤ b)
 difference_fits a b h k = fits_signed_from_abs w128 (a -ℤ b) (omega (arith, ints))

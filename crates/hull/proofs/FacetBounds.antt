@@ -9,7 +9,7 @@ use Rattle.lattice_theory.specs.Affine.{Affine, value, Vanishes, IsMultiple}
 use Rattle.lattice_theory.specs.Size.{size, weight}
 use Rattle.lattice_theory.specs.Facet.{IsFlat, IsFacet, AreFacets}
 use Rattle.lattice_theory.proofs.Integers.{products_out, linear}
-use Rattle.elimination.proofs.Members.{empty, more, each_from_all, all_from_each}
+use Rattle.lattice_theory.proofs.Members.{empty, more, each_from_all, all_from_each}
 use Rattle.elimination.proofs.Divisibility.{primitive_nonzero}
 use Rattle.facet_theory.specs.Laws.{AreSolid}
 use Rattle.facet_theory.proofs.FacetPoints.{facet_by_points_lem}

@@ -10,7 +10,7 @@ use Rattle.lattice_theory.proofs.Integers.{products_out, linear, zero_or_not, fa
 use Rattle.elimination.specs.Elimination.{Member, Annihilates, IsKernel, IsCombination, pairings}
 use Rattle.elimination.specs.Laws.{IsVectorMultiple}
 use Rattle.elimination.proofs.KernelSize.{single_kernel_lem, large_kernel_lem, multiplier_nonzero}
-use Rattle.elimination.proofs.Members.{Each, more, In, here, there, each_from_all, in_from_contains, contains_from_in, in_append_left, in_append_right, in_append_cases}
+use Rattle.lattice_theory.proofs.Members.{Each, more, In, here, there, each_from_all, in_from_contains, contains_from_in, in_append_left, in_append_right, in_append_cases}
 use Rattle.elimination.proofs.Divisibility.{primitive_same}
 use Rattle.hull.specs.Differences.{difference}
 use Rattle.std.specs.Prelude.{nat_abs, ◌*◌, ◌^◌}

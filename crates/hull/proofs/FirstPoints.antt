@@ -1,19 +1,18 @@
 -- The search over the first points: a facet is found at the first point on which it lies.
 use Rattle.std.specs.Prelude.{ℤ, pos, neg_ℤ, ◌+ℤ◌, ◌↔◌}
 use Rattle.std.specs.List.{All, Contains}
-use Rattle.std.proofs.Common.{◌≡◌, ◌≢◌, ℕ, ◌+◌, ◌<◌, ◌≤◌, ◌⊎◌, inl, inr, List, [], ◌∷◌, ◌++◌, length, take, drop, get_or, refl, sym, ◌∙◌, ap, subst, arith}
+use Rattle.std.proofs.Common.{◌≡◌, ◌≢◌, ℕ, ◌+◌, ◌<◌, ◌≤◌, ◌⊎◌, inl, inr, List, [], ◌∷◌, ◌++◌, length, take, drop, get_or, refl, sym, ◌∙◌, ap, arith}
 use Rattle.std.proofs.lemmas.List.{take-append-drop}
 use Rattle.std.proofs.lemmas.List.{drop_more, take_all}
-use Rattle.lattice_theory.specs.Vector.{dot, HaveDimension}
+use Rattle.lattice_theory.specs.Vector.{dot}
 use Rattle.lattice_theory.specs.Affine.{Affine, value, Vanishes, IsMultiple}
 use Rattle.lattice_theory.specs.Facet.{IsFacet, AreFacets}
 use Rattle.lattice_theory.specs.Order.{FunctionLess, Ascends}
 use Rattle.lattice_theory.proofs.Integers.{linear, zero_or_not}
 use Rattle.elimination.specs.Elimination.{Member}
-use Rattle.elimination.proofs.Members.{In, here, there, each_from_all, all_from_each, each_from_in, each_in, in_from_contains, contains_from_in, in_append_cases}
+use Rattle.lattice_theory.proofs.Members.{In, here, there, each_from_all, all_from_each, each_from_in, each_in, in_from_contains, contains_from_in, in_append_cases}
 use Rattle.facet_theory.specs.Laws.{AreSolid}
 use Rattle.facet_theory.proofs.FacetPoints.{facet_by_points_lem}
-use Rattle.lattice_core.specs.Dimensions.{dimension_of}
 use Rattle.hull.specs.Kernels.{IsPrimitiveKernel}
 use Rattle.hull.specs.Search.{IsKernelOfPoints, IsReached, AddsFacets}
 use Rattle.hull.proofs.Pivots.{take_more}
@@ -131,18 +130,3 @@ found_dimension n points P found all = all_from_each (each_from_in found (λ f i
     dimension : (f : Affine) → Contains [] f ⊎ IsFacet n points f → length f.normal ≡ n
     dimension f (inl c) = elim (in_from_contains [] c) [ ]
     dimension f (inr h) = h.dimension
-
--- the dimension of points is that of the first
-pub dimension_first : (points : List (List ℤ)) (p : List ℤ) → 0 < length points → p ≡ get_or points 0 p → length p ≡ dimension_of points
-dimension_first [] p some is = absurd (omega arith)
-dimension_first (q ∷ points) p some is = ap length is
-
--- points of one dimension have the first one's
-pub dimension_is : (n : ℕ) (points : List (List ℤ)) → HaveDimension n points → 0 < length points → dimension_of points ≡ n
-dimension_is n [] d h = absurd (omega arith)
-dimension_is n (p ∷ points) d h = d 0 p h
-
--- which is that of all
-pub own_dimension : (n : ℕ) (points : List (List ℤ)) → HaveDimension n points → HaveDimension (dimension_of points) points
-own_dimension n [] d = λ k x h. absurd (omega arith)
-own_dimension n (p ∷ points) d = subst (λ (m : ℕ). HaveDimension m (p ∷ points)) (sym (d 0 p (omega arith))) d

@@ -9,7 +9,7 @@ use Rattle.lattice_theory.specs.Size.{weight}
 use Rattle.lattice_theory.specs.Order.{Ascends}
 use Rattle.elimination.specs.Elimination.{Member, IsUnit, IsReduced, AreApart}
 use Rattle.elimination.proofs.KernelLaws.{kernel_starts_lem, kernel_stays_lem, kernel_steps_lem}
-use Rattle.elimination.proofs.Members.{Each, empty, more, here, there, each_from_all, all_from_each, each_left, each_right, each_append, each_tail, in_from_contains, contains_from_in, in_append_right}
+use Rattle.lattice_theory.proofs.Members.{Each, empty, more, here, there, each_from_all, all_from_each, each_left, each_right, each_append, each_tail, in_from_contains, contains_from_in, in_append_right}
 use Rattle.elimination.proofs.Divisibility.{primitive_from_combination}
 use Rattle.elimination.proofs.Vectors.{unit, dot-unit}
 use Rattle.normal_bounds.proofs.Products.{members_fit_lem, step_products_fit_lem}

@@ -7,7 +7,7 @@ use Rattle.std.proofs.Math.Seq.{take-suc, take-append_seam, get_or-append_seam, 
 use Rattle.lattice_theory.specs.Vector.{dot, IsPrimitive}
 use Rattle.lattice_theory.specs.Size.{weight}
 use Rattle.elimination.specs.Elimination.{Member, IsReduced}
-use Rattle.elimination.proofs.Members.{all_from_each, empty, In, in_from_contains, contains_from_in, in_append_left, in_append_right}
+use Rattle.lattice_theory.proofs.Members.{all_from_each, empty, In, in_from_contains, contains_from_in, in_append_left, in_append_right}
 use Rattle.lattice_core.specs.Limits.{size_limit_of}
 use Rattle.hull.specs.Kernels.{IsPrimitiveKernel, IsSmallKernel, IsPivotAt, CanReduce, IsReducedBy, IsStepped}
 use Rattle.hull.proofs.Kernels.{can_reduce, reduced_at, kernel_stepped, stepped_length, kernel_stayed}

@@ -2,21 +2,13 @@
 use Rattle.std.proofs.Common.{◌≡◌, ℕ, ◌+◌, ◌^◌, ◌<◌, ◌≤◌, List, [], ◌∷◌, ◌++◌, length, ℤ, pos, ◌-ℤ◌, ◌*ℤ◌, ⊎_elim, ap, ◌∙◌, All, arith}
 use Rattle.std.specs.Prelude.{nat_abs}
 use Rattle.std.proofs.lemmas.Bool.{cases_lt}
-use Rattle.std.proofs.lemmas.List.{get_or_append_left, get_or_push, length_push}
+use Rattle.std.proofs.lemmas.List.{length_push}
 use Rattle.std.proofs.lemmas.List.Elements.{All-push}
 use Rattle.lattice_theory.specs.Vector.{entry}
 use Rattle.lattice_theory.proofs.Integers.{products_out, linear}
-use Rattle.elimination.proofs.Vectors.{entry_past}
-use Rattle.elimination.proofs.Members.{all_from_each, empty}
+use Rattle.elimination.proofs.Vectors.{entry_past, entry_before, entry_last}
+use Rattle.lattice_theory.proofs.Members.{all_from_each, empty}
 use Rattle.hull.specs.Kernels.{AreMultiplesApart}
-
--- one more entry: the earlier ones
-entry_before : (xs : List ℤ) (y : ℤ) (k : ℕ) → k < length xs → entry (xs ++ (y ∷ [])) k ≡ entry xs k
-entry_before xs y k h = get_or_append_left xs (y ∷ []) (pos 0) k h
-
--- and itself
-entry_last : (xs : List ℤ) (y : ℤ) (i : ℕ) → length xs ≡ i → entry (xs ++ (y ∷ [])) i ≡ y
-entry_last xs y i e = get_or_push xs y (pos 0) i e
 
 -- the first i entries are a x_k - b y_k
 pub record AreApartBelow (a : ℤ) (x : List ℤ) (b : ℤ) (y : List ℤ) (i : ℕ) (z : List ℤ) : Type 0 where

@@ -18,7 +18,7 @@ use Rattle.lattice_theory.specs.Size.{size, weight}
 use Rattle.lattice_theory.proofs.Integers.{products_out, linear}
 use Rattle.elimination.specs.Elimination.{Member, Annihilates}
 use Rattle.elimination.specs.Laws.{IsVectorMultiple}
-use Rattle.elimination.proofs.Members.{Each, empty, more, each_from_all, all_from_each}
+use Rattle.lattice_theory.proofs.Members.{Each, empty, more, each_from_all, all_from_each}
 use Rattle.elimination.proofs.Vectors.{dot-scaled_left}
 use Rattle.normal_bounds.proofs.Sizes.{difference_weight_lem}
 use Rattle.hull.specs.Differences.{difference, differences}

@@ -7,6 +7,7 @@ use Rattle.std.specs.Int.RustNames.{FitsSigned}
 use mir.Syntax.{w128}
 use Rattle.lattice_theory.specs.Vector.{entry, dot}
 use Rattle.lattice_theory.specs.Size.{weight}
+use Rattle.lattice_theory.proofs.Integers.{first_terms}
 
 -- a product with a number of 64 bits
 product_bound : (a b : ℤ) → nat_abs a ≤ 2 ^ 63 → nat_abs (a *ℤ b) ≤ 2 ^ 63 * nat_abs b
@@ -20,17 +21,13 @@ dot_drop x y i h k = rw (add-one, drop-cons x i (pos 0) h, drop-cons y i (pos 0)
 weight_drop : (y : List ℤ) (i : ℕ) → i < length y → weight (drop i y) ≡ nat_abs (entry y i) + weight (drop (i + 1) y)
 weight_drop y i k = rw (add-one, drop-cons y i (pos 0) k)
 
--- a sum and a term
-regroup : (s p d e t : ℤ) → t ≡ s +ℤ p → s +ℤ (p +ℤ d) ≡ e → t +ℤ d ≡ e
-regroup s p d e t h k = omega (arith, ints)
-
 -- the absolute value of a sum
 abs_sum : (s p t : ℤ) → t ≡ s +ℤ p → nat_abs t ≤ nat_abs s + nat_abs p
 abs_sum s p t h = omega (arith, ints)
 
 -- the sum so far and the pairing of what is left make the whole
 pub sum_more : (x y : List ℤ) (i : ℕ) (s p t : ℤ) → i < length x → i < length y → p ≡ entry x i *ℤ entry y i → t ≡ s +ℤ p → s +ℤ dot (drop i x) (drop i y) ≡ dot x y → t +ℤ dot (drop (i + 1) x) (drop (i + 1) y) ≡ dot x y
-sum_more x y i s p t h k m e d = regroup s p (dot (drop (i + 1) x) (drop (i + 1) y)) _ t e (rw m (rw (dot_drop x y i h k) at d))
+sum_more x y i s p t h k m e d = first_terms s p (dot (drop (i + 1) x) (drop (i + 1) y)) _ t e (rw m (rw (dot_drop x y i h k) at d))
 
 -- the sum so far and the weight of what is left stay below the weight of all
 pub bound_more : (y : List ℤ) (i m : ℕ) (s a p t : ℤ) → i < length y → nat_abs a ≤ 2 ^ 63 → p ≡ a *ℤ entry y i → t ≡ s +ℤ p → nat_abs s + 2 ^ 63 * weight (drop i y) ≤ m → nat_abs t + 2 ^ 63 * weight (drop (i + 1) y) ≤ m

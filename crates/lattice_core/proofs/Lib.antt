@@ -1,3 +1,5 @@
+pub mod Dimension
+pub mod Widths
 pub mod Comparisons
 pub mod DotSteps
 pub mod Sorting

@@ -1,5 +1,5 @@
 -- Integer algebra: the laws of the ring that the library lacks, the sets of rules for `simp` and `omega`, and signs of products.
-use Rattle.std.proofs.Common.{◌≡◌, ◌≢◌, ℕ, zero, suc, ◌*◌, ◌<◌, ℤ, pos, negsuc, ◌+ℤ◌, ◌-ℤ◌, ◌*ℤ◌, neg_ℤ, ◌≤ℤ◌, ◌<ℤ◌, ◌⊎◌, inl, inr, refl, sym, ap, ◌∙◌, arith, ⊎_elim}
+use Rattle.std.proofs.Common.{◌≡◌, ◌≢◌, ℕ, zero, suc, ◌*◌, ◌<◌, ◌≤◌, ℤ, pos, negsuc, ◌+ℤ◌, ◌-ℤ◌, ◌*ℤ◌, neg_ℤ, nat_abs, ◌≤ℤ◌, ◌<ℤ◌, ◌⊎◌, inl, inr, refl, sym, ap, ◌∙◌, arith, ⊎_elim}
 use Rattle.std.proofs.lemmas.Int.{ints}
 use borrow.Author.Differences.{up, down, sum_is_lem, product_is, neg_is, abs_is, same_out, same_in, Apart-out, le_out, lt_out, below_in, at_most_in}
 
@@ -130,3 +130,27 @@ positive_is (negsuc n) h = absurd (omega (arith, linear))
 -- a natural above 0 as an integer
 pub positive_pos : (n : ℕ) → 0 < n → pos 0 <ℤ pos n
 positive_pos n h = omega (arith, linear)
+
+-- multiples of 0
+pub zero_terms : (a b x y : ℤ) → x ≡ pos 0 → y ≡ pos 0 → a *ℤ x +ℤ b *ℤ y ≡ pos 0
+zero_terms a b x y p q = rw (p, q) (simp products_out)
+
+-- the order by differences
+pub difference_from : (a b : ℤ) → a ≤ℤ b → pos 0 ≤ℤ (b -ℤ a)
+difference_from a b h = omega (arith, linear)
+
+-- and back
+pub order_from : (a b : ℤ) → pos 0 ≤ℤ (b -ℤ a) → a ≤ℤ b
+order_from a b h = omega (arith, linear)
+
+-- a sum whose first terms are added up
+pub first_terms : (s p d e t : ℤ) → t ≡ s +ℤ p → s +ℤ (p +ℤ d) ≡ e → t +ℤ d ≡ e
+first_terms s p d e t h k = omega (arith, linear)
+
+-- a number between two small numbers is small
+pub between_small : (low high x : ℤ) (m : ℕ) → low ≤ℤ x → x ≤ℤ high → nat_abs low ≤ m → nat_abs high ≤ m → nat_abs x ≤ m
+between_small low high x m h k l r = omega (arith, ints)
+
+-- naturals that are the same integer
+pub same_natural : (m n : ℕ) → pos m ≡ pos n → m ≡ n
+same_natural m n e = omega (arith, ints)

@@ -3,7 +3,7 @@ use Rattle.std.proofs.Common.{◌≡◌, ◌≢◌, ℕ, zero, suc, ◌*◌, ◌
 use Rattle.std.proofs.lemmas.List.{length-append, length-map}
 use Rattle.std.proofs.lemmas.Int.{ints}
 use Rattle.std.proofs.Math.Nat.{pow-zero, pow-succ'}
-use Rattle.elimination.proofs.Members.{Each, empty, more, each_append, each_map, each_weaker}
+use Rattle.lattice_theory.proofs.Members.{Each, empty, more, each_append, each_map, each_weaker}
 
 -- every two members differ
 pub data Different {X : Type 0} : List X → Type 0 where

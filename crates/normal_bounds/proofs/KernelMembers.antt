@@ -8,7 +8,7 @@ use Rattle.elimination.specs.Elimination.{Member, IsKernel, ArePivots}
 use Rattle.elimination.specs.Laws.{IsVectorMultiple}
 use Rattle.normal_bounds.specs.Bounds.{EntriesWithin}
 use Rattle.normal_bounds.specs.Laws.{MemberBound}
-use Rattle.elimination.proofs.Members.{Each, empty, more, In, here, there, each_weaker, each_from_all, all_from_each, in_from_contains}
+use Rattle.lattice_theory.proofs.Members.{Each, empty, more, In, here, there, each_weaker, each_from_all, all_from_each, in_from_contains}
 use Rattle.elimination.proofs.KernelPlaces.{kernel_member_lem}
 use Rattle.normal_bounds.proofs.Boxes.{free_places}
 use Rattle.normal_bounds.proofs.Counting.{IsFixed, IsFound, found, all_free, length-all_free, free-all_free}

@@ -10,7 +10,7 @@ use Rattle.elimination.specs.Elimination.{Annihilates}
 use Rattle.normal_bounds.specs.Bounds.{EntriesWithin, IsFixedBy}
 use Rattle.normal_bounds.specs.Laws.{NormalBound}
 use Rattle.lattice_theory.proofs.Integers.{linear, zero-*ℤ}
-use Rattle.elimination.proofs.Members.{Each, empty, more, each_head, each_tail, each_from_all, all_from_each}
+use Rattle.lattice_theory.proofs.Members.{Each, empty, more, each_head, each_tail, each_from_all, all_from_each}
 use Rattle.elimination.proofs.Vectors.{combined, entry-combined, entry-scaled, dot-combined_right, zero_from_entries}
 use Rattle.elimination.proofs.Divisibility.{multiple_of_primitive}
 use Rattle.normal_bounds.proofs.Counting.{counting_bound_lem}

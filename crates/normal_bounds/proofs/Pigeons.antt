@@ -2,7 +2,7 @@
 use Rattle.std.proofs.Common.{◌≡◌, ◌≢◌, ℕ, zero, suc, ◌+◌, ◌*◌, ◌<◌, ◌≤◌, List, [], ◌∷◌, length, ℤ, pos, ◌+ℤ◌, ◌-ℤ◌, ◌⊎◌, inl, inr, ⊎_elim, refl, ap, arith}
 use Rattle.std.proofs.lemmas.Bool.{cases_lt}
 use Rattle.lattice_theory.proofs.Integers.{linear, zero_or_not}
-use Rattle.elimination.proofs.Members.{Each, empty, more, each_head, each_tail}
+use Rattle.lattice_theory.proofs.Members.{Each, empty, more, each_head, each_tail}
 use Rattle.normal_bounds.proofs.Boxes.{Different, none, one_more}
 
 -- ys is xs without some of its members

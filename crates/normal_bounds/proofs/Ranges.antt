@@ -6,7 +6,7 @@ use Rattle.std.proofs.Math.Nat.{mul-le-mul_left, pow-le-pow_left, pow-le-pow_rig
 use Rattle.lattice_theory.specs.Vector.{dot}
 use Rattle.lattice_theory.specs.Size.{weight}
 use Rattle.lattice_theory.proofs.Integers.{linear}
-use Rattle.elimination.proofs.Members.{Each, empty, more}
+use Rattle.lattice_theory.proofs.Members.{Each, empty, more}
 use Rattle.normal_bounds.proofs.Boxes.{Inside, nothing, free, fixed}
 use Rattle.normal_bounds.proofs.Pigeons.{IsOneOf}
 

@@ -3,13 +3,14 @@ use Rattle.std.proofs.Common.{◌≡◌, ℕ, zero, suc, ◌+◌, ◌*◌, ◌<�
 use Rattle.std.proofs.lemmas.Int.{ints}
 use Rattle.std.proofs.lemmas.Bool.{cases_lt}
 use Rattle.std.proofs.lemmas.List.{get_or_default}
-use Rattle.std.proofs.Math.Nat.{mul-le-mul_right, le-max_left, le-max_right}
+use Rattle.std.proofs.Math.Nat.{mul-le-mul_right}
 use Rattle.lattice_theory.specs.Vector.{entry, dot}
-use Rattle.lattice_theory.specs.Size.{reach, size, weight}
+use Rattle.lattice_theory.specs.Size.{size, weight}
 use Rattle.normal_bounds.specs.Bounds.{EntriesWithin}
 use Rattle.normal_bounds.specs.Laws.{PairingBound, PointWeight, DifferenceWeight}
 use Rattle.elimination.proofs.Vectors.{entry_past}
-use Rattle.elimination.proofs.Members.{In, here, there, each_from_all, all_from_each, each_from_in, each_in}
+use Rattle.lattice_theory.proofs.Members.{In, each_from_all, all_from_each, each_from_in, each_in}
+use Rattle.lattice_theory.proofs.Sizes.{within_reach}
 
 -- a bound on all entries in the form of the library
 pub all_within : (bound : ℕ) (x : List ℤ) → EntriesWithin bound x → All (λ a. nat_abs a ≤ bound) x
@@ -58,16 +59,10 @@ weight_sum : (x : List ℤ) → weight x ≡ first_sum (length x) x
 weight_sum [] = refl
 weight_sum (a ∷ x) = ap (λ (n : ℕ). nat_abs a + n) (weight_sum x) ∙ sym (first_sum-cons (length x) a x)
 
--- no entry is above the largest
-reach_within : {p : List ℤ} (points : List (List ℤ)) (i : ℕ) → In p points → nat_abs (entry p i) ≤ reach points i
-reach_within [] i m = elim m [ ]
-reach_within (p ∷ points) i here = le-max_left (nat_abs (entry p i)) (reach points i)
-reach_within (q ∷ points) i (there m) = let e = reach_within points i m in let f = le-max_right (nat_abs (entry q i)) (reach points i) in omega arith
-
 -- so no sum is above the sum of the largest
 sum_within_size : {p : List ℤ} (n : ℕ) (points : List (List ℤ)) → In p points → first_sum n p ≤ size n points
 sum_within_size zero points m = omega arith
-sum_within_size (suc n) points m = let e = sum_within_size n points m in let f = reach_within points n m in omega arith
+sum_within_size (suc n) points m = let e = sum_within_size n points m in let f = within_reach points n m in omega arith
 
 -- a point of n coordinates
 weight_within_size : {p : List ℤ} (n : ℕ) (points : List (List ℤ)) → length p ≡ n → In p points → weight p ≤ size n points

@@ -5,7 +5,7 @@ use Rattle.std.proofs.Math.Nat.{mul_assoc, mul-le-mul, pow-suc, pow-le-pow_right
 use Rattle.std.proofs.lemmas.Bool.{ltb-false}
 use Rattle.std.proofs.lemmas.Option.{none-some}
 use Rattle.std.proofs.lemmas.List.{at_drop_more}
-use Rattle.elimination.proofs.Members.{Each, empty, more, each_head, all_from_each}
+use Rattle.lattice_theory.proofs.Members.{Each, empty, more, each_head, all_from_each}
 use Rattle.lattice_core.specs.declared.weights.WeightSystem.{WeightSystem}
 use Rattle.lattice_core.specs.Weights.{Weighted, weighted_all, columns_of, degree_product, AreWithinLimits}
 use Rattle.lattice_core.specs.declared.faults.Refusal.TheVariants.{Limit}

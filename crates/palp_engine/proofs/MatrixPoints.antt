@@ -5,9 +5,9 @@ use Rattle.std.proofs.Common.{◌≡◌, ℕ, ◌<◌, ◌≤◌, List, length, 
 use Rattle.std.proofs.lemmas.List.FromFn.{length-map-range_with_len}
 use Rattle.lattice_theory.specs.Vector.{HaveDimension}
 use Rattle.lattice_core.specs.Dimensions.{dimension_of}
-use Rattle.elimination.proofs.Members.{each_map, each_from_in, all_from_each}
+use Rattle.lattice_theory.proofs.Members.{each_map, each_from_in, all_from_each}
 use Rattle.palp_engine.specs.Matrices.{coordinate_of, coordinate_count, point_at, point_count, points_of}
-use Rattle.palp_engine.proofs.VertexLists.{first_dimension}
+use Rattle.lattice_core.proofs.Dimension.{dimension_is}
 
 -- each point has as many coordinates
 pub matrix_dimension : (lines columns : ℕ) (entries : List ℤ) → HaveDimension (coordinate_count lines columns) (points_of lines columns entries)
@@ -24,4 +24,4 @@ some_point lines columns entries some =
 -- so this is the points' dimension
 pub matrix_first : (lines columns : ℕ) (entries : List ℤ) → 1 ≤ lines → dimension_of (points_of lines columns entries) ≡ coordinate_count lines columns
 matrix_first lines columns entries some =
-    first_dimension (coordinate_count lines columns) (points_of lines columns entries) (some_point lines columns entries some) (matrix_dimension lines columns entries)
+    dimension_is (coordinate_count lines columns) (points_of lines columns entries) (some_point lines columns entries some) (matrix_dimension lines columns entries)

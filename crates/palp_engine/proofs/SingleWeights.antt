@@ -2,14 +2,12 @@
 use Rattle.std.proofs.Common.{◌≡◌, ℕ, ◌<◌, ◌≤◌, List, [], ◌∷◌, ◌++◌, length, ℤ, None, Some, refl, sym, ◌∙◌, ap, subst, Contains, arith}
 use Rattle.std.proofs.lemmas.Option.{none-some, same_Some}
 use Rattle.std.proofs.lemmas.List.Elements.{All-contains, All-head, All-tail}
-use Rattle.lattice_theory.specs.Order.{LexLess}
-use Rattle.lattice_theory.proofs.Orders.{lex_asymmetric}
-use Rattle.lattice_theory.proofs.Unique.{lists_unique}
 use Rattle.lattice_core.specs.Weights.{Weighted, columns_of, monomial_point, IsMonomial}
 use Rattle.lattice_core.specs.declared.faults.Refusal.{Refusal}
 use Rattle.lattice_core.specs.declared.faults.Refusal.TheVariants.{Limit}
 use Rattle.lattice_core.specs.declared.faults.LimitName.TheVariants.{Frame, Dim, Monomials, Size}
 use Rattle.weight_points.specs.Members.{AreMonomials}
+use Rattle.weight_points.proofs.Collecting.{same_monomials}
 use Rattle.weight_frame.specs.Frame.{largest, entry_limit, coordinate_limit, AreWithinEntryLimit, IsFirstAboveLimit}
 use Rattle.weight_frame.specs.Answers.{ExceedsEntryLimit, IsFrameWithinLimit, HasOtherDimension}
 use Rattle.weight_frame.specs.Laws.{IsIntegerBasis}
@@ -60,10 +58,6 @@ has_point n vectors (a ∷ members) (p ∷ points) some h = omega arith
 same_vectors : (systems : List Weighted) (vectors others : List (List ℤ)) → IsFrameWithinLimit systems vectors → IsFrameWithinLimit systems others
     → vectors ≡ others
 same_vectors systems vectors others f g = (frame_is_unique systems vectors f.made others g.made f.recursion g.recursion).0
-
-same_monomials : (systems : List Weighted) (members others : List (List ℤ)) → AreMonomials systems members → AreMonomials systems others
-    → members ≡ others
-same_monomials systems members others a b = lists_unique LexLess lex_asymmetric (IsMonomial systems) members others a b
 
 -- the points in the frame are determined
 pub same_frame_points : (systems : List Weighted) (n other : ℕ) (points others : List (List ℤ)) → AreFramePoints systems n points

@@ -1,7 +1,6 @@
 -- The vertices of points that aren't flat: they have the points' dimension and facets, no larger size, and the same lattice points.
 use Rattle.std.specs.Prelude.{◌↔◌, min, ℤ, pos, negsuc, nat_abs, ◌*ℤ◌, ◌≤ℤ◌}
 use Rattle.std.proofs.Common.{◌≡◌, ℕ, zero, suc, ◌+◌, ◌<◌, ◌≤◌, List, [], ◌∷◌, length, refl, ◌∙◌, arith}
-use Rattle.std.proofs.Math.Nat.{le-max_left, le-max_right}
 use Rattle.lattice_theory.specs.Vector.{entry, HaveDimension}
 use Rattle.lattice_theory.specs.Affine.{Affine, value, value_over, IsNonnegative, Vanishes}
 use Rattle.lattice_theory.specs.Size.{reach, size}
@@ -11,10 +10,13 @@ use Rattle.lattice_theory.specs.Points.{IsLatticePoint, AreLatticePoints, IsDila
 use Rattle.lattice_theory.proofs.Integers.{one-*ℤ, minus_one-*ℤ, linear, products_out}
 use Rattle.lattice_core.specs.Limits.{size_limit_of}
 use Rattle.lattice_core.specs.Dimensions.{dimension_of}
-use Rattle.elimination.proofs.Members.{In, here, there, each_from_all, all_from_each, each_from_in, each_in, in_from_contains, contains_from_in}
+use Rattle.lattice_theory.proofs.Members.{In, here, there, each_from_all, all_from_each, each_from_in, each_in, in_from_contains, contains_from_in}
+use Rattle.lattice_theory.proofs.Sizes.{within_reach}
+use Rattle.lattice_core.proofs.Dimension.{dimension_is}
 use Rattle.facet_theory.specs.Laws.{AreSolid}
 use Rattle.facet_theory.proofs.Functions.{mixed, length-mixed, value-mixed}
 use Rattle.facet_theory.proofs.Hull.{hull_by_facets_lem}
+use Rattle.facet_theory.proofs.Lifted.{value_at_one}
 use Rattle.facet_theory.proofs.LeastVertex.{least_at_vertex_lem, nonnegative_from_vertices, facets_of_vertices_lem}
 use Rattle.point_scan.specs.Dilates.{AreDilatePoints, CountsDilatePoints}
 
@@ -40,20 +42,11 @@ pub vertices_dimension : (n : ℕ) (points vertices : List (List ℤ)) → HaveD
 vertices_dimension n points vertices dims are =
     all_from_each (each_from_in vertices (λ v i. each_in (each_from_all (λ q. length q ≡ n) points dims) (vertex_in n points vertices are v i)))
 
-pub first_dimension : (n : ℕ) (points : List (List ℤ)) → 0 < length points → HaveDimension n points → dimension_of points ≡ n
-first_dimension n [] some dims = absurd (omega arith)
-first_dimension n (p ∷ points) some dims = each_in (each_from_all (λ q. length q ≡ n) (p ∷ points) dims) here
-
 -- fewer points aren't larger
-in_reach : {p : List ℤ} (points : List (List ℤ)) (i : ℕ) → In p points → nat_abs (entry p i) ≤ reach points i
-in_reach [] i m = elim m [ ]
-in_reach (p ∷ points) i here = le-max_left (nat_abs (entry p i)) (reach points i)
-in_reach (q ∷ points) i (there m) = let e = in_reach points i m in let f = le-max_right (nat_abs (entry q i)) (reach points i) in omega arith
-
 fewer_reach : (few points : List (List ℤ)) (i : ℕ) → ((p : List ℤ) → In p few → In p points) → reach few i ≤ reach points i
 fewer_reach [] points i among = omega arith
 fewer_reach (p ∷ few) points i among =
-    let a = in_reach points i (among p here) in
+    let a = within_reach points i (among p here) in
     let b = fewer_reach few points i (λ q m. among q (there m)) in
     omega arith
 
@@ -118,22 +111,19 @@ vertices_facets n points vertices facets solid are fs =
     }
 
 -- the lattice points of the vertices, taken once, are those of the points
-once : (f : Affine) (x : List ℤ) → value_over f x (pos 1) ≡ value f x
-once f x = rw (one-*ℤ f.constant) refl
-
 lattice_once : (n : ℕ) (points vertices : List (List ℤ)) → AreSolid n points → AreVertices n points vertices → (x : List ℤ) → IsDilatePoint n vertices 1 x ↔ IsLatticePoint n points x
 lattice_once n points vertices solid are x = (to_points, to_vertices)
   where
     to_points : IsDilatePoint n vertices 1 x → IsLatticePoint n points x
     to_points d = record {
       dimension = d.dimension;
-      inside = (hull_by_facets_lem n points solid x d.dimension).1 (λ f facet. rw (once f x) at (d.inside f ((facets_of_vertices_lem n points vertices solid are.members f).0 facet)));
+      inside = (hull_by_facets_lem n points solid x d.dimension).1 (λ f facet. rw (value_at_one f x) at (d.inside f ((facets_of_vertices_lem n points vertices solid are.members f).0 facet)));
     }
 
     to_vertices : IsLatticePoint n points x → IsDilatePoint n vertices 1 x
     to_vertices p = record {
       dimension = p.dimension;
-      inside = λ f facet. rw (once f x) ((hull_by_facets_lem n points solid x p.dimension).0 p.inside f ((facets_of_vertices_lem n points vertices solid are.members f).1 facet));
+      inside = λ f facet. rw (value_at_one f x) ((hull_by_facets_lem n points solid x p.dimension).0 p.inside f ((facets_of_vertices_lem n points vertices solid are.members f).1 facet));
     }
 
 pub lattice_of_vertices : (n : ℕ) (points vertices lattice : List (List ℤ)) → AreSolid n points → AreVertices n points vertices → AreDilatePoints n vertices 1 lattice → AreLatticePoints n points lattice
@@ -159,7 +149,7 @@ pub can_count : (n : ℕ) (points vertices : List (List ℤ)) (facets : List Aff
 can_count n points vertices facets solid some small are fs =
     let filled = some_vertex n points vertices solid some are in
     let dims = vertices_dimension n points vertices solid.dimension are in
-    let first = first_dimension n vertices filled dims in
+    let first = dimension_is n vertices filled dims in
     let bound = vertices_size n points vertices are in
     record {
       some = filled;
@@ -179,7 +169,7 @@ pub counts_lattice : (n : ℕ) (points vertices : List (List ℤ)) (limit counte
     → CountsDilatePoints (dimension_of vertices) vertices 1 limit counted → CountsLatticePoints n points limit counted
 counts_lattice n points vertices limit counted solid some are c =
     let filled = some_vertex n points vertices solid some are in
-    let first = first_dimension n vertices filled (vertices_dimension n points vertices solid.dimension are) in
+    let first = dimension_is n vertices filled (vertices_dimension n points vertices solid.dimension are) in
     record {
       lattice = c.lattice;
       are_lattice_points = lattice_of_vertices n points vertices c.lattice solid are (rw first at c.are_dilate_points);

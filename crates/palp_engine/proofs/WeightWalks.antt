@@ -11,14 +11,14 @@ use Rattle.lattice_core.specs.Weights.{Weighted, weighted_degree, columns_of, to
 use Rattle.lattice_core.specs.Weights.{IsInLattice, IsMonomial, IsSummed, AreWellFormed, AreWithinLimits}
 use Rattle.lattice_core.specs.declared.faults.Refusal.TheVariants.{Limit}
 use Rattle.lattice_core.specs.declared.faults.LimitName.TheVariants.{Monomials, Size}
-use Rattle.elimination.proofs.Members.{Each, empty, more, each_head, each_tail, each_in, each_push, each_from_in}
-use Rattle.elimination.proofs.Members.{each_from_all, all_from_each, In, here, there, in_push, in_append_left, in_from_contains, contains_from_in}
+use Rattle.lattice_theory.proofs.Members.{Each, empty, more, each_head, each_tail, each_in, each_push, each_from_in}
+use Rattle.lattice_theory.proofs.Members.{each_from_all, all_from_each, In, here, there, in_push, in_append_left, in_from_contains, contains_from_in}
 use Rattle.weight_points.specs.Listing.{solutions}
 use Rattle.weight_points.specs.Members.{Walked, AreMonomials, IsMonomialAt, HasMonomials, AreFirst}
 use Rattle.weight_points.specs.Search.{exponent}
 use Rattle.weight_points.proofs.Collecting.{none_are_first, first_and_next, first_are_all}
 use Rattle.weight_points.proofs.Integral.{integral, are_monomials, solution_from_monomial}
-use Rattle.weight_points.proofs.Sublists.{from_map}
+use Rattle.lattice_theory.proofs.Sublists.{from_map}
 use Rattle.weight_points.proofs.Weighing.{solution_small}
 use Rattle.weight_frame.specs.Answers.{IsFrameWithinLimit, IsFrameFault, IsHandedOut, HasCoordinates, HasLargeCoordinate}
 use Rattle.weight_frame.specs.Frame.{AreCoordinates, largest, coordinate_limit}
@@ -29,7 +29,7 @@ use Rattle.weight_frame.specs.declared.frame.FrameFault.TheVariants as frames
 use Rattle.palp_engine.specs.Stops.{StopsWeights, IsFrameStop}
 use Rattle.palp_engine.specs.WeightLines.{numbers_refusal, HasFrame, HaveCoordinates, AreFramePoints, AreWeightPoints}
 use Rattle.palp_engine.specs.WeightLines.{IsWeightRefusal, entry, other_dimension, many_monomials, large_point}
-use Rattle.palp_engine.proofs.VertexLists.{first_dimension}
+use Rattle.lattice_core.proofs.Dimension.{dimension_is}
 
 -- the weighted degree of an exponent vector's point
 shifted_sum : (a t e d s : ℤ) → d ≡ s -ℤ t → a *ℤ (e -ℤ pos 1) +ℤ d ≡ (a *ℤ e +ℤ s) -ℤ (a +ℤ t)
@@ -82,8 +82,8 @@ natural : (systems : List Weighted) (a : List ℤ) → AreWellFormed systems →
 unfolding integral
 natural systems a formed limits m =
     let listed : Contains (map (λ b. map pos b) (solutions systems)) a = ((are_monomials systems formed limits.degrees).members a).1 m in
-    let image = from_map (λ (b : List ℕ). map pos b) (solutions systems) a listed in
-    (image.source, image.is)
+    let image = from_map (λ (b : List ℕ). map pos b) (solutions systems) (in_from_contains _ listed) in
+    (image.source, sym image.is)
 
 pub point_small : (systems : List Weighted) (a : List ℤ) → AreWellFormed systems → AreWithinLimits systems → IsMonomial systems a
     → All (λ e. nat_abs e ≤ 32_768) (monomial_point a)
@@ -340,7 +340,7 @@ some_points systems n points formed are =
     let members = some_monomial systems w.members formed w.are_monomials in
     let some : 0 < length points = omega arith in
     let dims : HaveDimension (length vectors) points = all_from_each (have_dimension (columns_of systems) vectors w.members points w.coordinates) in
-    let first = first_dimension (length vectors) points some dims in
+    let first = dimension_is (length vectors) points some dims in
     let least = w.frame.least in
     let most = w.frame.most in
     (record { some = some; least = omega arith; most = omega arith; dimension = rw first dims }, first ∙ sym w.dimension)

@@ -22,6 +22,7 @@ use Rattle.palp_input.specs.declared.fault.TextKind.{TextKind}
 use Rattle.palp_input.specs.declared.fault.TextKind.TheVariants.{BadNumber, NumberRange, Quotient, BadByte}
 use Rattle.palp_input.specs.declared.fault.ItemFault.{ItemFault}
 use Rattle.palp_input.proofs.Alike.{AllFrom, none_from, more_from, Alike, alike_apart, alike_cut, alike_same}
+use Rattle.std.proofs.lemmas.Bool.{and_parts}
 
 -- the bytes of a token in the beginning of a text
 slice_front : (first rest : List ℕ) (at end : ℕ) → at ≤ end → end ≤ length first → slice_range (first ++ rest) at end ≡ slice_range first at end
@@ -153,13 +154,9 @@ slash byte bytes e =
     ∙ ap (λ (x : Bool). cond x (cond (nat_lt (digits_value 10 (byte ∷ bytes)) bound) (Number (pos (digits_value 10 (byte ∷ bytes)))) TooLarge) NoNumber)
     (no_digit (nat_le 1 (length (byte ∷ bytes))) (is_ascii_digit byte) (all_ascii_digits bytes) digit)
 
-both_true : (a b : Bool) → (a && b) ≡ true → a ≡ true
-both_true true b e = refl
-both_true false b e = cc
-
 quotient_no_number : (bytes : List ℕ) → starts_with eqb bytes (codes "/Z") ≡ true → numeral_of bytes ≡ NoNumber
 quotient_no_number [] e = refl
-quotient_no_number (byte ∷ bytes) e = slash byte bytes (both_true (eqb 47 byte) (pointwise eqb (90 ∷ []) (take 1 bytes)) e)
+quotient_no_number (byte ∷ bytes) e = slash byte bytes (and_parts (eqb 47 byte) (pointwise eqb (90 ∷ []) (take 1 bytes)) e).0
 
 -- the fault of a quotient
 quotient_line : (is_first : Bool) (token : Span) (rest : LineRead) (bytes : List ℕ) → is_first ≡ false → starts_with eqb bytes (codes "/Z") ≡ true

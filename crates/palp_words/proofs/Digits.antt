@@ -14,20 +14,9 @@ pub value_small : (w : List ℕ) (i : ℕ) → AllDigits 10 (take i w) → i < l
 value_small w i h a b =
     digits_value_short (numerals_by_value (AllDigits 10) tells_digits) (take i w) 8 h (simp length-take (omega arith))
 
--- the value of a digit
-pub digit_is : (c : ℕ) → is_ascii_digit c ≡ true → digit_value c ≡ c - 48
-digit_is c h = grind (arith, nat_tests)
-
 -- one digit more
 pub value_step : (w : List ℕ) (i v d : ℕ) → i < length w → is_ascii_digit (get_or w i 0) ≡ true
     → v ≡ digits_value 10 (take i w) → d ≡ get_or w i 0 - 48 → v * 10 + d ≡ digits_value 10 (take (i + 1) w)
 value_step w i v d lt h e k =
-    let digit = digit_is (get_or w i 0) h in
+    let digit : digit_value (get_or w i 0) ≡ get_or w i 0 - 48 = grind (arith, nat_tests) in
     let more = digits_value_more 10 w i lt in omega arith
-
--- the digits behind one digit
-pub rest_step : (w : List ℕ) (i : ℕ) → i < length w → is_ascii_digit (get_or w i 0) ≡ true
-    → all_ascii_digits (drop i w) ≡ all_ascii_digits (drop (i + 1) w)
-rest_step w i lt h =
-    let more : all_ascii_digits (drop i w) ≡ (is_ascii_digit (get_or w i 0) && all_ascii_digits (drop (i + 1) w)) = at_drop_more all_ascii_digits w i 0 lt in
-    more ∙ ap (λ (b : Bool). b && all_ascii_digits (drop (i + 1) w)) h

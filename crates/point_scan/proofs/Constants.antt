@@ -8,7 +8,7 @@ use Rattle.lattice_theory.specs.Vector.{HaveDimension}
 use Rattle.lattice_theory.specs.Affine.{Affine}
 use Rattle.lattice_theory.specs.Size.{size, weight}
 use Rattle.lattice_theory.specs.Facet.{IsFacet, AreFacets}
-use Rattle.elimination.proofs.Members.{each_from_in, all_from_each, contains_from_in}
+use Rattle.lattice_theory.proofs.Members.{each_from_in, all_from_each, contains_from_in}
 use Rattle.facet_theory.specs.Laws.{AreSolid}
 use Rattle.facet_theory.proofs.FacetPoints.{facet_by_points_lem}
 use Rattle.normal_bounds.specs.Bounds.{IsFixedBy, safe_size}

@@ -9,8 +9,8 @@ use Rattle.lattice_theory.specs.Affine.{Affine, value_over, IsNonnegative}
 use Rattle.lattice_theory.specs.Order.{LexLess}
 use Rattle.lattice_theory.specs.Facet.{AreFacets}
 use Rattle.lattice_theory.specs.Points.{IsLatticePoint, AreLatticePoints, IsDilatePoint}
-use Rattle.lattice_theory.proofs.Integers.{linear}
-use Rattle.elimination.proofs.Members.{In, each_from_in, each_in, in_from_contains, contains_from_in}
+use Rattle.lattice_theory.proofs.Integers.{linear, difference_from, order_from}
+use Rattle.lattice_theory.proofs.Members.{In, each_from_in, each_in, in_from_contains, contains_from_in}
 use Rattle.facet_theory.specs.Laws.{AreSolid}
 use Rattle.facet_theory.proofs.Lifted.{value_at_one}
 use Rattle.facet_theory.proofs.Signs.{nonnegative_same, nonnegative_from}
@@ -19,7 +19,7 @@ use Rattle.facet_theory.proofs.Generate.{facets_generate_lem}
 use Rattle.facet_theory.proofs.Hull.{sum_nonnegative, hull_by_facets_lem}
 use Rattle.point_scan.specs.Boxes.{grid, IsInBox, IsSpan, AreCorners}
 use Rattle.point_scan.specs.Dilates.{is_inside, AreDilatePoints}
-use Rattle.point_scan.proofs.Sublists.{in_filter, from_filter, ascends_filter, each_passes, all_pass}
+use Rattle.lattice_theory.proofs.Sublists.{in_filter, from_filter, ascends_filter, each_passes, all_pass}
 use Rattle.point_scan.proofs.Grids.{from_grid, in_grid, ascends_grid}
 
 -- inside, as a test and as a fact
@@ -29,14 +29,6 @@ test_of z h = grind (arith, ints)
 -- and back
 fact_of : (z : ℤ) → int_le (pos 0) z ≡ true → pos 0 ≤ℤ z
 fact_of z e = grind (arith, ints)
-
--- the order by differences
-difference_from : (a b : ℤ) → a ≤ℤ b → pos 0 ≤ℤ (b -ℤ a)
-difference_from a b h = omega (arith, linear)
-
--- and back
-order_from : (a b : ℤ) → pos 0 ≤ℤ (b -ℤ a) → a ≤ℤ b
-order_from a b h = omega (arith, linear)
 
 module _ (n : ℕ) (points : List (List ℤ)) (solid : AreSolid n points) (j : ℕ) where
   -- a function that is nonnegative on the points is nonnegative on the dilate, its constant taken j times

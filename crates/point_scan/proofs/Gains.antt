@@ -10,7 +10,7 @@ use Rattle.lattice_theory.specs.Vector.{entry, dot}
 use Rattle.lattice_theory.specs.Affine.{Affine, value_over}
 use Rattle.lattice_theory.specs.Size.{weight}
 use Rattle.lattice_theory.proofs.Integers.{products_out, linear, product_nonnegative, *ℤ-+ℤ, *ℤ-zero, neg-*ℤ, *ℤ-neg}
-use Rattle.elimination.proofs.Members.{In, here, there, in_from_contains}
+use Rattle.lattice_theory.proofs.Members.{In, here, there, in_from_contains}
 use Rattle.point_scan.specs.Boxes.{IsInBox, AgreesTo}
 use Rattle.point_scan.specs.Dilates.{IsNegativeAlong, IsRuledOut}
 use Rattle.point_scan.proofs.Steps.{same_below}
@@ -159,7 +159,3 @@ rule_out fs i f j low high x k within is negative p inside agrees =
 pub end_small : (a low high end : ℤ) (m : ℕ) → nat_abs low ≤ m → nat_abs high ≤ m → IsEnd a low high end → nat_abs end ≤ m
 end_small a low high end m h k (falling f e) = rw e h
 end_small a low high end m h k (rising f e) = rw e k
-
--- and so is what lies between
-pub between_small : (low high x : ℤ) (m : ℕ) → low ≤ℤ x → x ≤ℤ high → nat_abs low ≤ m → nat_abs high ≤ m → nat_abs x ≤ m
-between_small low high x m h k l r = omega (arith, ints)

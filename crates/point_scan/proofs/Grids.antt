@@ -5,9 +5,9 @@ use Rattle.std.proofs.lemmas.Int.{ints}
 use Rattle.lattice_theory.specs.Vector.{entry}
 use Rattle.lattice_theory.specs.Order.{LexLess, Ascends}
 use Rattle.lattice_theory.proofs.Integers.{positive_or_not}
-use Rattle.elimination.proofs.Members.{In, here, there, empty, all_from_each, in_append_left, in_append_right, in_append_cases}
+use Rattle.lattice_theory.proofs.Members.{In, here, there, empty, all_from_each, in_append_left, in_append_right, in_append_cases}
 use Rattle.point_scan.specs.Boxes.{natural_part, steps, columns, grid, after, IsInBox}
-use Rattle.point_scan.proofs.Sublists.{ascends_append, in_map, IsImage, from_map, ascends_map}
+use Rattle.lattice_theory.proofs.Sublists.{ascends_append, in_map, IsImage, from_map, ascends_map}
 
 -- numbers of steps
 one_less : (d e : ℤ) → pos 0 <ℤ d → d ≡ e +ℤ pos 1 → natural_part d ≡ suc (natural_part e)

@@ -1,4 +1,3 @@
-pub mod Sublists
 pub mod Grids
 pub mod Steps
 pub mod Walks

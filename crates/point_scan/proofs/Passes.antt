@@ -6,9 +6,9 @@ use Rattle.std.proofs.lemmas.Int.{ints}
 use Rattle.std.proofs.Math.ListN.{set}
 use Rattle.std.proofs.lemmas.List.{map-append, drop_all, take_all, get_or-set_same, get_or-set_other}
 use Rattle.lattice_theory.specs.Vector.{entry}
-use Rattle.elimination.proofs.Members.{Each, empty, more, In, each_from_in, each_from_all, all_from_each, each_in, each_map, each_weaker, in_append_cases, in_append_left}
+use Rattle.lattice_theory.proofs.Members.{Each, empty, more, In, each_from_in, each_from_all, all_from_each, each_in, each_map, each_weaker, in_append_cases, in_append_left}
 use Rattle.point_scan.specs.Boxes.{steps, columns, grid, after, IsInBox, AgreesTo, PassesOver}
-use Rattle.point_scan.proofs.Sublists.{filter-append, IsImage, from_map}
+use Rattle.lattice_theory.proofs.Sublists.{filter-append, IsImage, from_map}
 use Rattle.point_scan.proofs.Grids.{IsColumnPoint, from_columns, part_below, from_grid, box_tail, box_cons, after_end}
 use Rattle.point_scan.proofs.Steps.{same_below}
 use Rattle.point_scan.proofs.Walks.{IsAt, IsPast}

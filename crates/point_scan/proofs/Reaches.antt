@@ -8,19 +8,15 @@ use mir.Syntax.{w64}
 use Rattle.std.proofs.lemmas.List.Elements.{All-more, All-weaker}
 use Rattle.lattice_theory.specs.Vector.{entry}
 use Rattle.lattice_theory.specs.Size.{reach, size}
-use Rattle.elimination.proofs.Members.{In, here, there, in_from_contains}
+use Rattle.lattice_theory.proofs.Members.{In, here, there, in_from_contains}
 use Rattle.point_scan.specs.Boxes.{IsDilateSpan}
 use Rattle.lattice_core.specs.Dimensions.{dimension_of}
+use Rattle.elimination.proofs.Vectors.{entry_before, entry_last}
+use Rattle.lattice_theory.proofs.Sizes.{within_reach}
 
 -- each coordinate of a point is within the reach of that coordinate
-within_reach : (points : List (List ℤ)) (p : List ℤ) (i : ℕ) → In p points → nat_abs (entry p i) ≤ reach points i
-within_reach [] p i h = elim h [ ]
-within_reach (q ∷ points) p i here = omega arith
-within_reach (q ∷ points) p i (there h) = let k = within_reach points p i h in omega arith
-
--- the same for the point at a place
 pub within_reach_at : (points : List (List ℤ)) (j i : ℕ) (p : List ℤ) → j < length points → p ≡ get_or points j p → nat_abs (entry p i) ≤ reach points i
-within_reach_at points j i p within is = within_reach points p i (in_from_contains points (j, within, sym is))
+within_reach_at points j i p within is = within_reach points i (in_from_contains points (j, within, sym is))
 
 -- a span of the first points, widened to one more
 pub span_more : (points : List (List ℤ)) (i j : ℕ) (p : List ℤ) (low high low' high' : ℤ) → j < length points → p ≡ get_or points j p
@@ -51,20 +47,7 @@ reach-size (suc n) i points h = by (last_or_below i n h) (λ b. reach-size n i p
 pub product_fits : (points : List (List ℤ)) (n i : ℕ) (d a : ℤ) → i < n → size n points ≤ 2 ^ 30 → nat_abs d ≤ 7 → nat_abs a ≤ reach points i → FitsSigned w64 (d *ℤ a)
 product_fits points n i d a h small l k = let r = reach-size n i points h in fits_signed_mul w64 d a 7 (2 ^ 30) l (omega arith) (omega arith)
 
--- one more coordinate of both corners
-entry_old : (xs : List ℤ) (v : ℤ) (k : ℕ) → k < length xs → entry (xs ++ (v ∷ [])) k ≡ entry xs k
-entry_old [] v k h = absurd (omega arith)
-entry_old (x ∷ xs) v zero h = refl
-entry_old (x ∷ xs) v (suc k) h = entry_old xs v k (le_of_suc-le-suc h)
-
--- the new entry
-entry_new : (xs : List ℤ) (v : ℤ) (k : ℕ) → k ≡ length xs → entry (xs ++ (v ∷ [])) k ≡ v
-entry_new [] v zero h = refl
-entry_new [] v (suc k) h = absurd (omega arith)
-entry_new (x ∷ xs) v zero h = absurd (omega arith)
-entry_new (x ∷ xs) v (suc k) h = entry_new xs v k (omega arith)
-
--- so the spans of both corners are known up to that coordinate
+-- with one more coordinate of both corners, their spans are known up to that one
 pub spans_more : (points : List (List ℤ)) (j i : ℕ) (low high : List ℤ) (a b : ℤ) → length low ≡ i → length high ≡ i
     → ((k : ℕ) → k < i → IsDilateSpan points j k (entry low k) (entry high k)) → IsDilateSpan points j i a b
     → (k : ℕ) → k < i + 1 → IsDilateSpan points j k (entry (low ++ (a ∷ [])) k) (entry (high ++ (b ∷ [])) k)
@@ -74,10 +57,5 @@ spans_more points j i low high a b e f spans last k h = by (last_or_below k i h)
     last_or_below k i h = grind arith
 
     by : (k < i) ⊎ (k ≡ i) → IsDilateSpan points j k (entry (low ++ (a ∷ [])) k) (entry (high ++ (b ∷ [])) k)
-    by (inl l) = rw (entry_old low a k (omega arith), entry_old high b k (omega arith)) (spans k l)
-    by (inr l) = rw (entry_new low a k (omega arith), entry_new high b k (omega arith)) (rw l last)
-
--- the number of coordinates is that of the first point
-pub dimension_first : (points : List (List ℤ)) (p : List ℤ) → 0 < length points → p ≡ get_or points 0 p → dimension_of points ≡ length p
-dimension_first [] p h e = absurd (omega arith)
-dimension_first (q ∷ points) p h e = ap length (sym e)
+    by (inl l) = rw (entry_before low a k (omega arith), entry_before high b k (omega arith)) (spans k l)
+    by (inr l) = rw (entry_last low a k (omega arith), entry_last high b k (omega arith)) (rw l last)

@@ -5,7 +5,7 @@ use Rattle.std.proofs.lemmas.Int.{ints, unsigned_abs-mul}
 use Rattle.std.proofs.Math.Nat.{mul-le-mul_right, mul-le-mul_left}
 use Rattle.lattice_theory.specs.Vector.{entry}
 use Rattle.lattice_theory.specs.Size.{reach, size, weight}
-use Rattle.lattice_theory.proofs.Integers.{linear, product_nonnegative, *ℤ-+ℤ}
+use Rattle.lattice_theory.proofs.Integers.{linear, product_nonnegative, *ℤ-+ℤ, between_small}
 use Rattle.lattice_core.specs.Limits.{size_limit_of}
 use Rattle.point_scan.specs.Boxes.{AreCorners, IsInBox}
 
@@ -17,10 +17,6 @@ weight_from points j k m (a ∷ x) e h =
     let first = h 0 k (zero-lt-suc _) (omega arith) in
     let rest = weight_from points j (suc k) m x (omega arith) (λ i p l q. h (suc i) p (suc-le-suc l) (omega arith)) in
     omega (arith, first, rest)
-
--- a number between two small numbers is small
-between : (low high x : ℤ) (m : ℕ) → low ≤ℤ x → x ≤ℤ high → nat_abs low ≤ m → nat_abs high ≤ m → nat_abs x ≤ m
-between low high x m h k l r = omega (arith, ints)
 
 -- j times a number
 pub multiple_small : (j r : ℕ) (a b : ℤ) → a ≡ pos j *ℤ b → nat_abs b ≤ r → nat_abs a ≤ j * r
@@ -38,7 +34,7 @@ weight_in_box n points j low high x corners inside =
     small i p l q =
         let s = corners.spans i (let e = inside.low_dimension in let d = corners.low_dimension in omega arith) in
         let w = inside.within i l in
-        rw q (between (entry low i) (entry high i) (entry x i) (j * reach points i) w.0 w.1
+        rw q (between_small (entry low i) (entry high i) (entry x i) (j * reach points i) w.0 w.1
         (multiple_small j (reach points i) (entry low i) s.lowest s.low_is s.spans.small_low)
         (multiple_small j (reach points i) (entry high i) s.highest s.high_is s.spans.small_high))
 

@@ -4,6 +4,7 @@ use Rattle.std.specs.Int.{w128}
 use Rattle.std.proofs.lemmas.Int.{ints, to_z-of_z, unsigned_abs-mul, fits_signed_from_abs, quot_fits}
 use Rattle.std.specs.Int.RustNames.{int_div}
 use Rattle.std.proofs.Math.Nat.{mul-le-mul}
+use Rattle.lattice_core.proofs.Widths.{small_fits}
 
 -- the size of a product
 pub product_bound : (a b : ℤ) (m n : ℕ) → nat_abs a ≤ m → nat_abs b ≤ n → nat_abs (a *ℤ b) ≤ m * n
@@ -12,10 +13,6 @@ product_bound a b m n h k = rw unsigned_abs-mul (mul-le-mul h k)
 -- the size of a sum
 pub sum_bound : (a b : ℤ) (m n : ℕ) → nat_abs a ≤ m → nat_abs b ≤ n → nat_abs (a +ℤ b) ≤ m + n
 sum_bound a b m n h k = omega (arith, ints)
-
--- a small number fits 128 bits
-pub small_fits : (a : ℤ) → nat_abs a ≤ 2 ^ 120 → SFits w128 a
-small_fits a h = fits_signed_from_abs w128 a (omega arith)
 
 -- a product in 128 bits
 product_fits : (p a : ℤ) → nat_abs p ≤ 2 ^ 60 → nat_abs a ≤ 2 ^ 40 → SFits w128 (p *ℤ a)

@@ -2,9 +2,9 @@
 use Rattle.std.proofs.Common.{◌≡◌, ◌≢◌, ℕ, zero, suc, ◌+◌, ◌*◌, ◌-◌, ◌/◌, ◌%◌, ◌<◌, ◌≤◌, List, [], ◌∷◌, ℤ, pos, negsuc, ◌+ℤ◌, ◌-ℤ◌, ◌*ℤ◌, nat_abs, refl, sym, ap, subst, ◌∙◌, arith}
 use Rattle.std.proofs.lemmas.Int.{ints}
 use Rattle.lattice_theory.specs.Vector.{entry, dot, DividesInteger}
-use Rattle.lattice_theory.proofs.Integers.{products_out, linear, *ℤ_comm, cancel_left, positive_nonzero, positive_pos}
-use Rattle.elimination.proofs.Members.{empty, more, each_from_all, all_from_each, each_head, each_tail, each_weaker}
-use Rattle.elimination.proofs.Divisibility.{gcd_exists, divides_zero, divides_sum, divides_multiple, divides_itself, zero_divides}
+use Rattle.lattice_theory.proofs.Integers.{products_out, linear, *ℤ_comm, cancel_left, positive_nonzero, positive_pos, same_natural}
+use Rattle.lattice_theory.proofs.Members.{empty, more, each_from_all, all_from_each, each_head, each_tail, each_weaker}
+use Rattle.elimination.proofs.Divisibility.{gcd_exists, divides_zero, divides_sum, divides_multiple, divides_itself, zero_divides, divides_through}
 use Rattle.weight_frame.specs.Frame.{IsGreatestDivisor, AreLeastMultipliers}
 
 -- divisors of each other are the same
@@ -29,10 +29,6 @@ greatest_unique values g h p q = divides_both g h (q.greatest g p.divides) (p.gr
 -- that of no values is 0
 pub greatest_none : IsGreatestDivisor [] 0
 greatest_none = record { divides = all_from_each empty; greatest = λ d h. divides_zero d }
-
--- a divisor of a divisor divides
-pub divides_through : (d e : ℕ) (a : ℤ) → DividesInteger d (pos e) → DividesInteger e a → DividesInteger d a
-divides_through d e a h (k, f) = subst (DividesInteger d) f (divides_multiple d k (pos e) h)
 
 -- the first two coefficients
 no_second : (b v a : ℤ) → b *ℤ v +ℤ pos 0 ≡ b *ℤ v +ℤ pos 0 *ℤ a
@@ -173,9 +169,6 @@ divisor_nonzero p g after h e = positive_nonzero (pos g) (positive_pos g (diviso
 
 pub after_nonzero : (after : ℕ) → 0 < after → pos after ≢ pos 0
 after_nonzero after h = positive_nonzero (pos after) (positive_pos after h)
-
-same_natural : (p p' : ℕ) → pos p ≡ pos p' → p ≡ p'
-same_natural p p' e = omega (arith, ints)
 
 -- there are no others
 pub record AreSame (p p' : ℕ) (q q' : ℤ) (s s' : ℕ) (t t' : ℤ) : Type 0 where

@@ -76,7 +76,7 @@ positive_divisor : (d after : ℕ) → 0 < after → d ∣ after → 0 < d
 positive_divisor zero after h k = let z = eq-zero_of_zero-dvd k in absurd (omega arith)
 positive_divisor (suc d) after h k = omega arith
 
-positive_part : (p d after : ℕ) → 0 < after → p * d ≡ after → 0 < p
+pub positive_part : (p d after : ℕ) → 0 < after → p * d ≡ after → 0 < p
 positive_part zero d after h e = absurd (omega arith)
 positive_part (suc p) d after h e = omega arith
 

@@ -8,14 +8,13 @@ use Rattle.std.specs.Int.{w128}
 use native.Mathlib.Nat.{dvd-mul_left}
 use Rattle.std.specs.Int.{◌∣◌}
 use Rattle.lattice_theory.specs.Vector.{entry, dot}
-use Rattle.lattice_theory.proofs.Integers.{products_out, linear, cancel_left, positive_nonzero, positive_pos, *ℤ_comm}
+use Rattle.lattice_theory.proofs.Integers.{products_out, linear, cancel_left, positive_nonzero, positive_pos, *ℤ_comm, first_terms}
 use Rattle.lattice_core.proofs.CommonDivisors.{exact_quotient}
-use Rattle.elimination.proofs.Members.{more, each_from_all}
+use Rattle.lattice_theory.proofs.Members.{more, each_from_all}
 use Rattle.elimination.proofs.Vectors.{entry_past, zero_from_entries, entries_from_zero}
 use Rattle.weight_frame.specs.Frame.{IsIntegerCombination, AreCoordinates, largest, coordinate_limit, entry_limit, AreWithinEntryLimit}
 use Rattle.weight_frame.specs.Echelon.{LeadsAt, Leads, no_more, leads}
 use Rattle.weight_frame.specs.Places.{IsFirstPlace, IsNextCoordinate, AreFound, IsLargeSomewhere}
-use Rattle.weight_frame.proofs.ValueSteps.{regroup}
 use Rattle.weight_frame.proofs.Largest.{entry_at_most}
 use Rattle.weight_frame.proofs.Steps.{AreSized}
 use Rattle.weight_frame.proofs.Leads.{column, zero_column, leads_zero}
@@ -112,7 +111,7 @@ combined_drop c us j p b h k e = rw (drop_more c j (pos 0) h, drop_more us j b k
 
 pub combined_more : (c : List ℤ) (us : List (List ℤ)) (j p : ℕ) (b : List ℤ) (s q t : ℤ) → j < length c → j < length us → b ≡ get_or us j b → q ≡ entry c j *ℤ entry b p → t ≡ s +ℤ q
     → s +ℤ dot (drop j c) (column p (drop j us)) ≡ dot c (column p us) → t +ℤ dot (drop (j + 1) c) (column p (drop (j + 1) us)) ≡ dot c (column p us)
-combined_more c us j p b s q t h k e f g d = regroup s q (dot (drop (j + 1) c) (column p (drop (j + 1) us))) _ t g (rw f (rw (combined_drop c us j p b h k e) at d))
+combined_more c us j p b s q t h k e f g d = first_terms s q (dot (drop (j + 1) c) (column p (drop (j + 1) us))) _ t g (rw f (rw (combined_drop c us j p b h k e) at d))
 
 pub combined_all : (c : List ℤ) (us : List (List ℤ)) (j p : ℕ) (s : ℤ) → length c ≤ j → s +ℤ dot (drop j c) (column p (drop j us)) ≡ dot c (column p us) → s ≡ dot c (column p us)
 combined_all c us j p s h d = let d' : s +ℤ pos 0 ≡ dot c (column p us) = rw (drop_all j c h) at d in omega (arith, linear)

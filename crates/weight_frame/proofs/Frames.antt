@@ -3,7 +3,7 @@ use Rattle.std.proofs.Common.{◌≡◌, ◌≢◌, ℕ, ◌<◌, ◌≤◌, Lis
 use Rattle.lattice_theory.specs.Vector.{entry, dot}
 use Rattle.lattice_theory.proofs.Integers.{products_out, linear, zero_or_not, factor_zero, *ℤ_comm}
 use Rattle.lattice_core.specs.Weights.{Weighted, weighted_degree, columns_of, IsInLattice}
-use Rattle.elimination.proofs.Members.{Each, empty, more, each_head, each_tail, each_left, each_right, each_append, each_weaker, each_from_all, all_from_each}
+use Rattle.lattice_theory.proofs.Members.{Each, empty, more, each_head, each_tail, each_left, each_right, each_append, each_weaker, each_from_all, all_from_each}
 use Rattle.weight_frame.specs.Frame.{IsSumOfMultiples, Exchanges, none, more as one_more, AreExchanged, done, next, IsRecursion, IsIntegerCombination, AreCoordinates, largest, entry_limit, AreWithinEntryLimit, IsFirstAboveLimit}
 use Rattle.weight_frame.specs.Reached.{AreSmallVectors}
 use Rattle.weight_frame.specs.Answers.{IsFrameWithinLimit, ExceedsEntryLimit, HasOtherDimension}

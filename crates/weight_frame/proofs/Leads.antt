@@ -7,6 +7,7 @@ use Rattle.lattice_core.specs.Weights.{Weighted, weighted_degree}
 use Rattle.elimination.proofs.Vectors.{entry-scaled}
 use Rattle.weight_frame.specs.Echelon.{IsZeroBelow, LeadsAt, Leads, no_more, leads}
 use Rattle.weight_frame.specs.Frame.{Exchange, keeps, takes, turns, exchanges, Exchanges, none, more}
+use Rattle.weight_frame.proofs.Euclid.{positive_part}
 
 -- from a place before on
 pub leads_from : (a b : ℕ) (us : List (List ℤ)) → a ≤ b → Leads b us → Leads a us
@@ -39,10 +40,6 @@ lead_sum p x q y z e h k g =
     let o = ap (λ (w : ℤ). q *ℤ w) g ∙ *ℤ-zero q in
     omega (arith, linear)
 
-positive_left : (p g after : ℕ) → 0 < after → p * g ≡ after → 0 < p
-positive_left zero g after h e = absurd (omega arith)
-positive_left (suc p) g after h e = omega arith
-
 step_leads : (n : ℕ) (u : List ℤ) (v : ℤ) (h : List ℤ) (after g place : ℕ) (k ks : List (List ℤ)) (next : List ℤ) → LeadsAt u place → IsZeroBelow (suc place) h → Leads (suc place) ks
     → Exchange n u v h after g k next → HasLeads place (k ++ ks) next
 step_leads n u v h after g place _ ks _ l z m (keeps a b i) = record { kept = leads place (omega arith) l m; last = λ j _. i.zeros j }
@@ -51,7 +48,7 @@ step_leads n u v h after g place _ ks _ l z m (turns a b) = record { kept = lead
 step_leads n u v h after g place _ ks _ l z m (exchanges {k = k} {next = next} p q s t a b x y) = record {
   kept = leads place (omega arith) (record {
     before = λ j i. zero_sum (pos p) (entry u j) (neg_ℤ q) (entry h j) (entry k j) (x.entries j) (l.before j i) (z j (omega arith));
-    positive = lead_sum (pos p) (entry u place) (neg_ℤ q) (entry h place) (entry k place) (x.entries place) (positive_pos p (positive_left p g after a b.behind)) l.positive (z place (omega arith));
+    positive = lead_sum (pos p) (entry u place) (neg_ℤ q) (entry h place) (entry k place) (x.entries place) (positive_pos p (positive_part p g after a b.behind)) l.positive (z place (omega arith));
   }) m;
   last = λ j i. zero_sum (pos s) (entry u j) t (entry h j) (entry next j) (y.entries j) (l.before j i) (z j (omega arith));
 }

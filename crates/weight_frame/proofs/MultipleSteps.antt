@@ -6,7 +6,7 @@ use Rattle.std.proofs.lemmas.List.Elements.{All-push}
 use Rattle.lattice_theory.specs.Vector.{entry}
 use Rattle.lattice_theory.proofs.Integers.{products_out}
 use Rattle.elimination.proofs.Vectors.{entry_past}
-use Rattle.elimination.proofs.Members.{all_from_each, empty}
+use Rattle.lattice_theory.proofs.Members.{all_from_each, empty}
 use Rattle.weight_frame.specs.Frame.{IsSumOfMultiples}
 
 -- the first i entries are p x_k + q y_k

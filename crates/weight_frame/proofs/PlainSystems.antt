@@ -1,20 +1,11 @@
 -- Systems that pass the computing tests are well formed and within the limits.
 use Rattle.std.proofs.Common.{◌≡◌, ℕ, zero, suc, ◌<◌, ◌≤◌, Bool, true, false, ◌&&◌, ◌==◌, nat_lt, List, [], ◌∷◌, length, refl, slice_index_or, zero-lt-suc, arith}
-use Rattle.std.proofs.lemmas.Bool.{false≢true, eqb-true}
+use Rattle.std.proofs.lemmas.Bool.{false≢true, eqb-true, and_parts}
 use borrow.Author.Tests.{ltb-true}
 use Rattle.std.proofs.Math.Nat.{mul-le-mul}
-use Rattle.elimination.proofs.Members.{Each, empty, more, all_from_each}
+use Rattle.lattice_theory.proofs.Members.{Each, empty, more, all_from_each}
 use Rattle.lattice_core.specs.Weights.{Weighted, total, IsSummed, AreWellFormed, AreWithinLimits}
 use Rattle.weight_frame.specs.Plain.{are_positive, is_summed, is_plain}
-
--- both tests
-first_test : (a b : Bool) → (a && b) ≡ true → a ≡ true
-first_test true b e = refl
-first_test false b e = absurd (false≢true e)
-
-second_test : (a b : Bool) → (a && b) ≡ true → b ≡ true
-second_test true b e = e
-second_test false b e = absurd (false≢true e)
 
 -- a summed system
 pub record IsSmallSystem (n degree : ℕ) (weights : List ℕ) : Type 0 where
@@ -25,20 +16,20 @@ pub record IsSmallSystem (n degree : ℕ) (weights : List ℕ) : Type 0 where
 
 summed_small : (n degree : ℕ) (weights : List ℕ) → is_summed n degree weights ≡ true → IsSmallSystem n degree weights
 summed_small n degree weights e =
-    let rest = second_test (length weights == n) _ e in
-    let bounds = second_test (total weights == degree) _ rest in
+    let rest = (and_parts (length weights == n) _ e).1 in
+    let bounds = (and_parts (total weights == degree) _ rest).1 in
     record {
-      count = eqb-true (length weights) n (first_test (length weights == n) _ e);
-      sum = eqb-true (total weights) degree (first_test (total weights == degree) _ rest);
-      least = ltb-true 0 degree (first_test (nat_lt 0 degree) _ bounds);
-      most = let h = ltb-true degree 32_768 (second_test (nat_lt 0 degree) _ bounds) in omega arith;
+      count = eqb-true (length weights) n (and_parts (length weights == n) _ e).0;
+      sum = eqb-true (total weights) degree (and_parts (total weights == degree) _ rest).0;
+      least = ltb-true 0 degree (and_parts (nat_lt 0 degree) _ bounds).0;
+      most = let h = ltb-true degree 32_768 (and_parts (nat_lt 0 degree) _ bounds).1 in omega arith;
     }
 
 -- positive weights
 positive_at : (weights : List ℕ) (place : ℕ) → are_positive weights ≡ true → place < length weights → 1 ≤ slice_index_or weights place 0
 positive_at [] place e h = absurd (omega arith)
-positive_at (w ∷ weights) zero e h = ltb-true 0 w (first_test (nat_lt 0 w) _ e)
-positive_at (w ∷ weights) (suc place) e h = positive_at weights place (second_test (nat_lt 0 w) _ e) (omega arith)
+positive_at (w ∷ weights) zero e h = ltb-true 0 w (and_parts (nat_lt 0 w) _ e).0
+positive_at (w ∷ weights) (suc place) e h = positive_at weights place (and_parts (nat_lt 0 w) _ e).1 (omega arith)
 
 -- what a plain system is
 pub record IsPlainSystem (degree : ℕ) (weights : List ℕ) : Type 0 where
@@ -48,12 +39,12 @@ pub record IsPlainSystem (degree : ℕ) (weights : List ℕ) : Type 0 where
 
 plain_system : (degree : ℕ) (weights : List ℕ) → is_plain degree weights ≡ true → IsPlainSystem degree weights
 plain_system degree weights e =
-    let rest = second_test (are_positive weights) _ e in
-    let counts = second_test (is_summed (length weights) degree weights) _ rest in
+    let rest = (and_parts (are_positive weights) _ e).1 in
+    let counts = (and_parts (is_summed (length weights) degree weights) _ rest).1 in
     record {
-      small = summed_small (length weights) degree weights (first_test (is_summed (length weights) degree weights) _ rest);
-      positive = first_test (are_positive weights) _ e;
-      most = let h = ltb-true (length weights) 13 (second_test (nat_lt 0 (length weights)) _ counts) in omega arith;
+      small = summed_small (length weights) degree weights (and_parts (is_summed (length weights) degree weights) _ rest).0;
+      positive = (and_parts (are_positive weights) _ e).0;
+      most = let h = ltb-true (length weights) 13 (and_parts (nat_lt 0 (length weights)) _ counts).1 in omega arith;
     }
 
 -- systems of which the first has positive weights

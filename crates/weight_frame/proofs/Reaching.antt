@@ -2,7 +2,7 @@
 use Rattle.std.proofs.Common.{◌≡◌, ℕ, zero, suc, ◌+◌, ◌<◌, ◌≤◌, List, [], ◌∷◌, ◌++◌, length, drop, ℤ, sym, ap, subst, ◌∙◌, All, arith, length-append, append_assoc, get_or}
 use Rattle.std.proofs.lemmas.List.{drop_more}
 use Rattle.lattice_core.specs.Weights.{Weighted, weighted_degree, columns_of}
-use Rattle.elimination.proofs.Members.{empty, each_from_all, all_from_each, each_append, each_tail, each_head}
+use Rattle.lattice_theory.proofs.Members.{empty, each_from_all, all_from_each, each_append, each_tail, each_head}
 use Rattle.weight_frame.specs.Frame.{IsZeroVector, AreUnitVectors, degrees_of, Exchange, keeps, takes, turns, exchanges, none, more as one_more, AreExchanged, done, next, largest, entry_limit, AreWithinEntryLimit, IsFirstAboveLimit}
 use Rattle.weight_frame.specs.Reached.{AreSmallVectors, IsStep, IsStepAbove, IsReached, IsAbove, AreReached}
 use Rattle.weight_frame.specs.Answers.{IsFrameWithinLimit, ExceedsEntryLimit}

@@ -2,7 +2,7 @@
 use Rattle.std.proofs.Common.{◌≡◌, ℕ, zero, suc, ◌*◌, ◌<◌, List, [], ◌∷◌, ◌++◌, length, map, ℤ, pos, refl, ap, ap₂, subst, arith}
 use Rattle.lattice_theory.specs.Vector.{dot, DividesInteger}
 use Rattle.lattice_core.specs.Weights.{Weighted, weighted_degree}
-use Rattle.elimination.proofs.Members.{Each, empty, each_head, each_tail, each_append}
+use Rattle.lattice_theory.proofs.Members.{Each, empty, each_head, each_tail, each_append}
 use Rattle.elimination.proofs.Vectors.{zeros}
 use Rattle.elimination.proofs.Divisibility.{zero_divides}
 use Rattle.weight_frame.specs.Frame.{IsZeroVector, IsGreatestDivisor, degrees_of, Exchange, keeps, takes, turns, exchanges, Exchanges, none, more as one_more}

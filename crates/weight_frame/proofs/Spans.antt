@@ -4,7 +4,7 @@ use Rattle.std.proofs.Common.{◌≡◌, ℕ, ◌+◌, List, [], ◌∷◌, ◌+
 use Rattle.lattice_theory.specs.Vector.{entry, dot, scaled}
 use Rattle.lattice_theory.proofs.Integers.{products_out, linear, minus_one-*ℤ}
 use Rattle.lattice_core.specs.Weights.{Weighted, weighted_degree}
-use Rattle.elimination.proofs.Members.{Each, more, each_head, each_tail}
+use Rattle.lattice_theory.proofs.Members.{Each, more, each_head, each_tail}
 use Rattle.elimination.proofs.Vectors.{entry-scaled, zeros, length-zeros, entry-zeros}
 use Rattle.weight_frame.specs.Frame.{IsZeroVector, Exchange, keeps, takes, turns, exchanges, Exchanges, none, more as one_more, IsIntegerCombination}
 use Rattle.weight_frame.proofs.Sums.{sum_exists, sum_pairs, zero_pairs}

@@ -3,7 +3,7 @@ use Rattle.std.proofs.Common.{◌≡◌, ◌≢◌, ℕ, zero, suc, ◌+◌, ◌
 use Rattle.std.proofs.lemmas.Bool.{cases_eq}
 use Rattle.lattice_theory.specs.Vector.{entry, dot}
 use Rattle.lattice_theory.proofs.Integers.{products_out, linear}
-use Rattle.elimination.proofs.Members.{Each, empty, more}
+use Rattle.lattice_theory.proofs.Members.{Each, empty, more}
 use Rattle.elimination.proofs.Vectors.{unit, length-unit, entry-unit_same, entry-unit_other, same_from_entries}
 use Rattle.weight_frame.specs.Frame.{IsUnitVector, AreUnitVectors, AreCoordinates, largest, entry_limit}
 use Rattle.weight_frame.proofs.Largest.{unit_small}

@@ -4,7 +4,7 @@ use Rattle.std.proofs.lemmas.List.{get_or-map, take-append-drop, drop_more, take
 use Rattle.std.proofs.lemmas.List.Elements.{All-push}
 use Rattle.std.specs.List.{AllZip}
 use Rattle.std.proofs.lemmas.Slice.Zip.{AllZip-map}
-use Rattle.elimination.proofs.Members.{Each, empty, more, all_from_each}
+use Rattle.lattice_theory.proofs.Members.{Each, empty, more, all_from_each}
 use Rattle.lattice_core.specs.declared.weights.WeightSystem.{WeightSystem}
 use Rattle.lattice_core.specs.Weights.{Weighted, weighted, weighted_all, weighted_degree, columns_of, total, IsSummed, AreWellFormed, AreWithinLimits}
 use Rattle.weight_frame.specs.Reached.{IsUsable}

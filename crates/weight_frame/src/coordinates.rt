@@ -11,7 +11,7 @@ ghost use Rattle.weight_frame.specs.Places.{IsFirstPlace, IsNextCoordinate, AreF
 ghost use Rattle.weight_frame.specs.Answers.{IsHandedOut, IsAnswer};
 
 use crate::multiples::product;
-use crate::values::weighted_value;
+use crate::values::{narrowed, weighted_value};
 use crate::vector::FrameVector;
 use arrayvec::ArrayVec;
 use lattice_core::{Point, WeightSystem};
@@ -99,13 +99,6 @@ fn next_coordinate(x: &[i64], vectors: &[FrameVector], found: &[i64]) -> i128
         ),
         None => unreachable!(),
     }
-}
-
-fn narrowed(a: i128) -> i64
-    requires { nat_abs a ≤ coordinate_limit }
-    ensures { result ≡ a }
-{
-    a as i64
 }
 
 /// The coordinates of a combination of the vectors. It is `None` where one of them is above the limit.

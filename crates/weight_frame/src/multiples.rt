@@ -4,6 +4,7 @@ ghost use Rattle.std.specs.List.{All};
 ghost use Rattle.weight_frame.specs.Frame.{IsSumOfMultiples, largest, entry_limit};
 ghost use Rattle.weight_frame.specs.Sums.{IsSmallSum, IsLargeSum};
 
+use crate::values::narrowed;
 use crate::vector::FrameVector;
 use arrayvec::ArrayVec;
 
@@ -58,13 +59,6 @@ fn largest_of(x: &[i128]) -> u128
         most = most.max(entry.unsigned_abs());
     }
     most
-}
-
-fn narrowed(a: i128) -> i64
-    requires { nat_abs a ≤ entry_limit }
-    ensures { result ≡ a }
-{
-    a as i64
 }
 
 /// The vector with these entries.

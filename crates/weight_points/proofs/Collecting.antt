@@ -11,7 +11,7 @@ use Rattle.weight_points.specs.Listing.{solutions}
 use Rattle.weight_points.proofs.Integral.{integral, are_monomials}
 
 -- the list of all is the only one
-same_monomials : (systems : List Weighted) (xs ys : List (List ℤ)) → AreMonomials systems xs → AreMonomials systems ys → xs ≡ ys
+pub same_monomials : (systems : List Weighted) (xs ys : List (List ℤ)) → AreMonomials systems xs → AreMonomials systems ys → xs ≡ ys
 same_monomials systems xs ys h k = lists_unique LexLess lex_asymmetric (IsMonomial systems) xs ys h k
 
 -- two beginnings of one list with the same length

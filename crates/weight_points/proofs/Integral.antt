@@ -8,13 +8,14 @@ use Rattle.std.proofs.lemmas.List.Elements.{All-nil, All-cons, All-head, All-tai
 use Rattle.lattice_theory.specs.Vector.{dot}
 use Rattle.lattice_theory.specs.Order.{LexLess, Lists}
 use Rattle.lattice_core.specs.Weights.{Weighted, AreWellFormed, IsMonomial}
+use Rattle.lattice_theory.proofs.Members.{In, in_from_contains, contains_from_in}
+use Rattle.lattice_theory.proofs.Sublists.{in_map, from_map, ascends_map}
 use Rattle.weight_points.specs.Members.{AreMonomials}
 use Rattle.weight_points.specs.Reaches.{spent}
 use Rattle.weight_points.specs.Search.{Solves, ComesBefore}
 use Rattle.weight_points.specs.Listing.{solutions}
 use Rattle.weight_points.proofs.Grids.{are_solutions}
-use Rattle.weight_points.proofs.Sublists.{in_map, from_map, ascends_map}
-use Rattle.std.specs.List.{Contains}
+use Rattle.lattice_theory.proofs.Integers.{same_natural}
 
 -- the same order
 pub lex_from_before : (a b : List ℕ) → ComesBefore a b → LexLess (map pos a) (map pos b)
@@ -57,13 +58,10 @@ monomial_from_solution systems a s = record {
   degrees = λ k d h. degree_is _ a ∙ ap (λ (n : ℕ). pos n) (s.degrees k d h);
 }
 
-same_number : (m n : ℕ) → pos m ≡ pos n → m ≡ n
-same_number m n e = omega (arith, ints)
-
 pub solution_from_monomial : (systems : List Weighted) (a : List ℕ) → IsMonomial systems (map pos a) → Solves systems a
 solution_from_monomial systems a m = record {
   columns = sym (length-map a pos) ∙ m.columns;
-  degrees = λ k d h. same_number _ _ (sym (degree_is _ a) ∙ m.degrees k d h);
+  degrees = λ k d h. same_natural _ _ (sym (degree_is _ a) ∙ m.degrees k d h);
 }
 
 -- the list of all exponent vectors
@@ -74,19 +72,19 @@ pub are_monomials : (systems : List Weighted) → AreWellFormed systems → All 
 unfolding integral
 are_monomials systems formed small = record {
   ascends = ascends_map ComesBefore LexLess (λ a. map pos a) lex_from_before (solutions systems) all.ascends;
-  members = λ x. (from x, to x);
+  members = λ x. (λ c. from x (in_from_contains _ c), λ m. contains_from_in (to x m));
 }
   where
     all : Lists ComesBefore (Solves systems) (solutions systems)
     all = are_solutions systems formed small
 
-    from : (x : List ℤ) → Contains (map (λ a. map pos a) (solutions systems)) x → IsMonomial systems x
+    from : (x : List ℤ) → In x (map (λ a. map pos a) (solutions systems)) → IsMonomial systems x
     from x c =
-        let i = from_map (λ (a : List ℕ). map pos a) (solutions systems) x c in
-        subst (IsMonomial systems) i.is (monomial_from_solution systems i.source ((all.members i.source).0 i.member))
+        let i = from_map (λ (a : List ℕ). map pos a) (solutions systems) c in
+        subst (IsMonomial systems) (sym i.is) (monomial_from_solution systems i.source ((all.members i.source).0 (contains_from_in i.member)))
 
-    to : (x : List ℤ) → IsMonomial systems x → Contains (map (λ a. map pos a) (solutions systems)) x
+    to : (x : List ℤ) → IsMonomial systems x → In x (map (λ a. map pos a) (solutions systems))
     to x m =
         let n = natural x m.nonnegative in
         let s = solution_from_monomial systems n.exponents (subst (IsMonomial systems) (sym n.is) m) in
-        subst (Contains (map (λ (a : List ℕ). map pos a) (solutions systems))) n.is (in_map (λ (a : List ℕ). map pos a) (solutions systems) n.exponents ((all.members n.exponents).1 s))
+        subst (λ y. In y (map (λ (a : List ℕ). map pos a) (solutions systems))) n.is (in_map (λ (a : List ℕ). map pos a) (in_from_contains _ ((all.members n.exponents).1 s)))

@@ -4,7 +4,6 @@ pub mod Completing
 pub mod Reaching
 pub mod Writing
 pub mod Advancing
-pub mod Sublists
 pub mod Grids
 pub mod Integral
 pub mod Positions

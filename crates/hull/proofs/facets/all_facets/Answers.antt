@@ -2,8 +2,9 @@ use Rattle.std.proofs.Common.{◌≡◌, [], length, take, ◌∙◌, ap, arith}
 use Rattle.lattice_core.specs.Dimensions.{dimension_of}
 use Rattle.hull.specs.Kernels.{IsPrimitiveKernel}
 use Rattle.facet_theory.specs.Laws.{AreSolid}
-use Rattle.hull.proofs.FirstPoints.{IsMet, met_none, met_more, met_all, found_dimension, dimension_first}
+use Rattle.hull.proofs.FirstPoints.{IsMet, met_none, met_more, met_all, found_dimension}
 use Rattle.hull.proofs.facets.all_facets.Goals as goal
+use Rattle.lattice_core.proofs.Dimension.{dimension_first}
 
 pub loop-i-init : goal.loop-i-init
 loop-i-init c = rw c.new-facets.ensures.items (met_none (dimension_of c.args.points.now) c.args.points.now)

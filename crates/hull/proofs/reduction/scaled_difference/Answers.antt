@@ -1,8 +1,9 @@
 use Rattle.std.proofs.Common.{◌*ℤ◌, ◌-ℤ◌, SFits, rules}
 use Rattle.std.specs.Int.{w128}
 use Rattle.std.proofs.lemmas.Int.{to_z-of_z}
-use Rattle.hull.proofs.Arithmetic.{small_fits, difference_fits, difference_small}
+use Rattle.hull.proofs.Arithmetic.{difference_fits, difference_small}
 use Rattle.hull.proofs.reduction.scaled_difference.Goals as goal
+use Rattle.lattice_core.proofs.Widths.{small_fits}
 
 pub overflow_sub-result : goal.overflow_sub-result
 overflow_sub-result c =

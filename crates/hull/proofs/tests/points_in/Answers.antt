@@ -1,5 +1,5 @@
-use Rattle.hull.proofs.FirstPoints.{own_dimension, dimension_is}
 use Rattle.hull.proofs.tests.points_in.Goals as goal
+use Rattle.lattice_core.proofs.Dimension.{own_dimension, dimension_is}
 
 pub returns : goal.returns
 returns c = record { one_dimension = own_dimension c.args.n c.loop-row.points.items c.loop-row.invariant; dimension = dimension_is c.args.n c.loop-row.points.items c.loop-row.invariant }

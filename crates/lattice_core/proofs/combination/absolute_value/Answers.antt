@@ -6,6 +6,7 @@ use Rattle.lattice_theory.specs.Affine.{value}
 use Rattle.lattice_core.proofs.Combinations.{normal_weight, value_small, value_is}
 use Rattle.lattice_core.proofs.combination.absolute_value.Goals as goal
 use Rattle.lattice_core.proofs.combination.absolute_value.Goals.{After-constant}
+use Rattle.lattice_core.proofs.Widths.{small_fits}
 
 pub wide_pair-pairing-requires-clause-small : goal.wide_pair-pairing-requires-clause-small
 wide_pair-pairing-requires-clause-small c =
@@ -20,10 +21,6 @@ total_is c = value_is c.args.f.now c.args.p.now _ _ _ _ c.entries.ensures.value 
 total_small : (c : After-constant) → nat_abs (c.wide_pair-pairing.result +ℤ c.constant.result) < 2 ^ 76
 total_small c = rw (total_is c) (value_small c.args.p.now c.args.f.now c.requires)
 
--- a small number fits, and so does its opposite
-small_fits : (a : ℤ) → nat_abs a < 2 ^ 76 → SFits w128 a
-small_fits a h = fits_signed_from_abs w128 a (omega arith)
-
 opposite_fits : (a : ℤ) → nat_abs a < 2 ^ 76 → SFits w128 (neg_ℤ a)
 opposite_fits a h = fits_signed_from_abs w128 (neg_ℤ a) (omega (arith, ints))
 
@@ -34,13 +31,13 @@ pub overflow_add-pairing : goal.overflow_add-pairing
 overflow_add-pairing c =
     let first : SFits w128 c.wide_pair-pairing.result = search rules in
     let second : SFits w128 c.constant.result = search rules in
-    simp to_z-of_z (small_fits (c.wide_pair-pairing.result +ℤ c.constant.result) (total_small c))
+    simp to_z-of_z (small_fits (c.wide_pair-pairing.result +ℤ c.constant.result) (let small = total_small c in omega arith))
 
 pub abs-requires : goal.abs-requires
 abs-requires c =
     let first : SFits w128 c.wide_pair-pairing.result = search rules in
     let second : SFits w128 c.constant.result = search rules in
-    let sum : SFits w128 (c.wide_pair-pairing.result +ℤ c.constant.result) = small_fits _ (total_small c) in
+    let sum : SFits w128 (c.wide_pair-pairing.result +ℤ c.constant.result) = small_fits _ (let small = total_small c in omega arith) in
     simp to_z-of_z (opposite_fits (c.wide_pair-pairing.result +ℤ c.constant.result) (total_small c))
 
 pub returns : goal.returns
@@ -49,7 +46,7 @@ returns c =
     let second : SFits w128 c.constant.result = search rules in
     let total = value_is c.args.f.now c.args.p.now _ _ _ _ c.entries.ensures.value c.normal.ensures.value c.wide_pair-pairing.ensures.value c.constant.ensures in
     let small = subst (λ (a : ℤ). nat_abs a < 2 ^ 76) (sym total) (value_small c.args.p.now c.args.f.now c.requires) in
-    let sum : SFits w128 (c.wide_pair-pairing.result +ℤ c.constant.result) = small_fits _ small in
+    let sum : SFits w128 (c.wide_pair-pairing.result +ℤ c.constant.result) = small_fits _ (omega arith) in
     let answer : SFits w128 c.abs.result = search rules in
     let absolute = simp to_z-of_z at c.abs.ensures.value in
     simp to_z-of_z (absolute ∙ ap (λ (a : ℤ). pos (nat_abs a)) total)

@@ -3,10 +3,7 @@ use Rattle.std.specs.Prelude.{nat_abs}
 use Rattle.std.specs.Int.{w128}
 use Rattle.std.proofs.lemmas.Int.{ints, to_z-of_z, fits_signed_from_abs}
 use Rattle.lattice_core.proofs.combination.sum_of_products.Goals as goal
-
--- a number below 2^126 fits, and so does the sum of two
-one_fits : (a : ℤ) → nat_abs a < 2 ^ 126 → SFits w128 a
-one_fits a h = fits_signed_from_abs w128 a (omega arith)
+use Rattle.lattice_core.proofs.Widths.{small_fits}
 
 two_small : (a b : ℤ) → nat_abs a < 2 ^ 126 → nat_abs b < 2 ^ 126 → nat_abs (a +ℤ b) < 2 ^ 127
 two_small a b h k = omega (arith, ints)
@@ -20,8 +17,8 @@ overflow_add-result c =
     let right : SFits w128 c.args.right = c.ranges.right in
     let first : SFits w128 c.args.a = c.ranges.a in
     let second : SFits w128 c.args.b = c.ranges.b in
-    let left_fits : SFits w128 (c.args.left *ℤ c.args.a) = one_fits (c.args.left *ℤ c.args.a) c.requires.first in
-    let right_fits : SFits w128 (c.args.right *ℤ c.args.b) = one_fits (c.args.right *ℤ c.args.b) c.requires.second in
+    let left_fits : SFits w128 (c.args.left *ℤ c.args.a) = small_fits (c.args.left *ℤ c.args.a) c.requires.first in
+    let right_fits : SFits w128 (c.args.right *ℤ c.args.b) = small_fits (c.args.right *ℤ c.args.b) c.requires.second in
     simp to_z-of_z (two_fit (c.args.left *ℤ c.args.a) (c.args.right *ℤ c.args.b) c.requires.first c.requires.second)
 
 pub returns : goal.returns
@@ -30,8 +27,8 @@ returns c =
     let right : SFits w128 c.args.right = c.ranges.right in
     let first : SFits w128 c.args.a = c.ranges.a in
     let second : SFits w128 c.args.b = c.ranges.b in
-    let left_fits : SFits w128 (c.args.left *ℤ c.args.a) = one_fits (c.args.left *ℤ c.args.a) c.requires.first in
-    let right_fits : SFits w128 (c.args.right *ℤ c.args.b) = one_fits (c.args.right *ℤ c.args.b) c.requires.second in
+    let left_fits : SFits w128 (c.args.left *ℤ c.args.a) = small_fits (c.args.left *ℤ c.args.a) c.requires.first in
+    let right_fits : SFits w128 (c.args.right *ℤ c.args.b) = small_fits (c.args.right *ℤ c.args.b) c.requires.second in
     let fits : SFits w128 (c.args.left *ℤ c.args.a +ℤ c.args.right *ℤ c.args.b) =
     two_fit (c.args.left *ℤ c.args.a) (c.args.right *ℤ c.args.b) c.requires.first c.requires.second in
     record {

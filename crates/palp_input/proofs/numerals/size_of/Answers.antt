@@ -1,5 +1,7 @@
-use Rattle.std.proofs.Common.{sym, ◌∙◌}
-use Rattle.palp_input.proofs.Digits.{size_step, rest_step}
+use Rattle.std.proofs.Common.{◌+◌, Bool, ◌&&◌, drop, ap, sym, ◌∙◌}
+use Rattle.std.proofs.lemmas.List.{at_drop_more}
+use Rattle.std.specs.Str.{all_ascii_digits}
+use Rattle.palp_input.proofs.Digits.{size_step}
 use Rattle.palp_input.proofs.numerals.size_of.Goals as goal
 
 pub loop-digit-preserved : goal.loop-digit-preserved
@@ -9,5 +11,5 @@ loop-digit-preserved c =
     let i = c.loop-digit.digit-index in
     record {
       written = c.min-size.ensures ∙ size_step digits i _ _ c.loop-digit-test.true is_digit c.loop-digit.invariant.written c.from.ensures;
-      rest = c.loop-digit.invariant.rest ∙ rest_step digits i c.loop-digit-test.true is_digit;
+      rest = c.loop-digit.invariant.rest ∙ (at_drop_more all_ascii_digits digits i 0 c.loop-digit-test.true ∙ ap (λ (b : Bool). b && all_ascii_digits (drop (i + 1) digits)) is_digit);
     }

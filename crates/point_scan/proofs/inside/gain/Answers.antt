@@ -3,9 +3,10 @@ use Rattle.std.specs.Prelude.{ℤ, nat_abs, ◌-ℤ◌, ◌*ℤ◌}
 use Rattle.std.proofs.Common.{◌≡◌, ◌≤◌, ◌^◌, ap₂, arith, rules, SFits, w64}
 use Rattle.std.specs.Int.{w128}
 use Rattle.std.proofs.lemmas.Int.{ints, to_z-of_z, fits_signed_from_abs}
-use Rattle.point_scan.proofs.Gains.{IsEnd, falling, rising, gain_small, gain_most, gain_least, end_small, between_small}
+use Rattle.point_scan.proofs.Gains.{IsEnd, falling, rising, gain_small, gain_most, gain_least, end_small}
 use Rattle.point_scan.proofs.inside.gain.Goals as goal
 use Rattle.point_scan.proofs.inside.gain.Goals.{After-from-2, then-factor-lt0, else-factor-lt0}
+use Rattle.lattice_theory.proofs.Integers.{between_small}
 
 -- the end that is taken
 ending : (c : After-from-2) → IsEnd c.args.factor c.args.low c.args.high (to_z w64 c.if-factor-lt0.end-bits)

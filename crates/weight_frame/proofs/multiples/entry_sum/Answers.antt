@@ -1,8 +1,9 @@
 use Rattle.std.proofs.Common.{◌^◌, ◌+ℤ◌, SFits, w64, rules, arith, ap₂}
 use Rattle.std.specs.Int.{w128}
 use Rattle.std.proofs.lemmas.Int.{to_z-of_z}
-use Rattle.weight_frame.proofs.Bounds.{sum_bound, small_fits}
+use Rattle.weight_frame.proofs.Bounds.{sum_bound}
 use Rattle.weight_frame.proofs.multiples.entry_sum.Goals as goal
+use Rattle.lattice_core.proofs.Widths.{small_fits}
 
 pub returns-clause-value : goal.returns-clause-value
 returns-clause-value c =

@@ -4,8 +4,9 @@ use Rattle.std.proofs.Common.{arith, rules, SFits, w64, length, sym, ap, ◌∙�
 use Rattle.std.proofs.lemmas.Int.{ints, to_z-of_z}
 use Rattle.point_scan.specs.Boxes.{IsDilateSpan}
 use Rattle.lattice_core.specs.Dimensions.{dimension_of}
-use Rattle.point_scan.proofs.Reaches.{product_fits, dimension_first, spans_more}
+use Rattle.point_scan.proofs.Reaches.{product_fits, spans_more}
 use Rattle.point_scan.proofs.walk.Walk.start.Goals as goal
+use Rattle.lattice_core.proofs.Dimension.{dimension_first}
 
 pub overflow_mul-lowest : goal.overflow_mul-lowest
 overflow_mul-lowest c =

@@ -1,8 +1,9 @@
 -- Lists in ascending order, what a test keeps of a list, and the members of a map.
 use Rattle.std.specs.List.{filter, list_all}
-use Rattle.std.proofs.Common.{◌≡◌, Bool, true, false, cond, ◌&&◌, List, [], ◌∷◌, ◌++◌, map, refl, ap}
+use Rattle.std.proofs.Common.{◌≡◌, Bool, true, false, cond, List, [], ◌∷◌, ◌++◌, map, refl, ap}
+use Rattle.std.proofs.lemmas.Bool.{and_parts, and_from}
 use Rattle.lattice_theory.specs.Order.{Ascends}
-use Rattle.elimination.proofs.Members.{Each, empty, more, In, here, there, each_from_all, all_from_each, each_append, each_from_in, each_in, each_map, each_weaker}
+use Rattle.lattice_theory.proofs.Members.{Each, empty, more, In, here, there, each_from_all, all_from_each, each_append, each_from_in, each_in, each_map, each_weaker}
 
 -- a member that passes the test is kept
 kept_head : {X : Type 0} (test : X → Bool) (x : X) (xs : List X) (b : Bool) → test x ≡ b → b ≡ true → In x (cond b (x ∷ filter test xs) (filter test xs))
@@ -61,19 +62,7 @@ ascends_append less (x ∷ xs) ys a b cross = (
   ascends_append less xs ys a.1 b (λ x' y i j. cross x' y (there i) j),
 )
 
--- a test of all members
-and_parts : (a b : Bool) → (a && b) ≡ true → (a ≡ true) × (b ≡ true)
-and_parts true true e = (refl, refl)
-and_parts true false e = cc
-and_parts false b e = cc
-
--- and back
-and_both : (a b : Bool) → a ≡ true → b ≡ true → (a && b) ≡ true
-and_both true true p q = refl
-and_both true false p q = cc
-and_both false b p q = cc
-
--- where all pass, each does
+-- a test of all members: where all pass, each does
 pub each_passes : {X : Type 0} (test : X → Bool) (xs : List X) → list_all test xs ≡ true → Each (λ x. test x ≡ true) xs
 each_passes test [] e = empty
 each_passes test (x ∷ xs) e = let t = and_parts (test x) (list_all test xs) e in more t.0 (each_passes test xs t.1)
@@ -81,7 +70,7 @@ each_passes test (x ∷ xs) e = let t = and_parts (test x) (list_all test xs) e 
 -- and back
 pub all_pass : {X : Type 0} (test : X → Bool) (xs : List X) → Each (λ x. test x ≡ true) xs → list_all test xs ≡ true
 all_pass test [] empty = refl
-all_pass test (x ∷ xs) (more p ps) = and_both (test x) (list_all test xs) p (all_pass test xs ps)
+all_pass test (x ∷ xs) (more p ps) = and_from (test x) (list_all test xs) p (all_pass test xs ps)
 
 -- a test of two lists end to end
 kept : {X : Type 0} (b : Bool) (x : X) (all front back : List X) → all ≡ front ++ back → cond b (x ∷ all) all ≡ cond b (x ∷ front) front ++ back
