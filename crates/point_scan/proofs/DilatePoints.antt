@@ -1,5 +1,5 @@
 -- The lattice points of a dilate are the points of its box that lie inside all facets.
-use Rattle.std.specs.Prelude.{ℤ, pos, ◌-ℤ◌, ◌*ℤ◌, ◌≤ℤ◌, int_le}
+use Rattle.std.specs.Prelude.{ℤ, pos, ◌*ℤ◌, ◌≤ℤ◌, int_le}
 use Rattle.std.specs.List.{filter}
 use Rattle.std.proofs.Common.{◌≡◌, ℕ, ◌<◌, true, List, length, sym, ◌∙◌, arith}
 use Rattle.std.proofs.lemmas.Int.{ints}
@@ -9,7 +9,7 @@ use Rattle.lattice_theory.specs.Affine.{Affine, value_over, IsNonnegative}
 use Rattle.lattice_theory.specs.Order.{LexLess}
 use Rattle.lattice_theory.specs.Facet.{AreFacets}
 use Rattle.lattice_theory.specs.Points.{IsLatticePoint, AreLatticePoints, IsDilatePoint}
-use Rattle.lattice_theory.proofs.Integers.{linear, difference_from, order_from}
+use Rattle.lattice_theory.proofs.Integers.{difference_from, order_from}
 use Rattle.lattice_theory.proofs.Members.{In, each_from_in, each_in, in_from_contains, contains_from_in}
 use Rattle.facet_theory.specs.Laws.{AreSolid}
 use Rattle.facet_theory.proofs.Lifted.{value_at_one}

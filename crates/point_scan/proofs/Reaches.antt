@@ -1,16 +1,15 @@
 -- The span of a coordinate, point by point.
 use Rattle.std.specs.Prelude.{ℤ, nat_abs, ◌*ℤ◌, ◌≤ℤ◌}
 use Rattle.std.specs.List.{All}
-use Rattle.std.proofs.Common.{◌≡◌, ℕ, zero, suc, ◌+◌, ◌^◌, ◌<◌, ◌≤◌, ◌⊎◌, inl, inr, List, [], ◌∷◌, ◌++◌, length, take, get_or, refl, sym, ap, subst, arith, le_of_suc-le-suc}
+use Rattle.std.proofs.Common.{◌≡◌, ℕ, zero, suc, ◌+◌, ◌^◌, ◌<◌, ◌≤◌, ◌⊎◌, inl, inr, List, [], ◌∷◌, ◌++◌, length, take, get_or, sym, ap, subst, arith}
 use Rattle.std.proofs.lemmas.Int.{ints, fits_signed_mul}
 use Rattle.std.specs.Int.RustNames.{FitsSigned}
 use mir.Syntax.{w64}
 use Rattle.std.proofs.lemmas.List.Elements.{All-more, All-weaker}
 use Rattle.lattice_theory.specs.Vector.{entry}
 use Rattle.lattice_theory.specs.Size.{reach, size}
-use Rattle.lattice_theory.proofs.Members.{In, here, there, in_from_contains}
+use Rattle.lattice_theory.proofs.Members.{in_from_contains}
 use Rattle.point_scan.specs.Boxes.{IsDilateSpan}
-use Rattle.lattice_core.specs.Dimensions.{dimension_of}
 use Rattle.elimination.proofs.Vectors.{entry_before, entry_last}
 use Rattle.lattice_theory.proofs.Sizes.{within_reach}
 

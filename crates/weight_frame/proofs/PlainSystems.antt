@@ -1,6 +1,6 @@
 -- Systems that pass the computing tests are well formed and within the limits.
-use Rattle.std.proofs.Common.{◌≡◌, ℕ, zero, suc, ◌<◌, ◌≤◌, Bool, true, false, ◌&&◌, ◌==◌, nat_lt, List, [], ◌∷◌, length, refl, slice_index_or, zero-lt-suc, arith}
-use Rattle.std.proofs.lemmas.Bool.{false≢true, eqb-true, and_parts}
+use Rattle.std.proofs.Common.{◌≡◌, ℕ, zero, suc, ◌<◌, ◌≤◌, true, ◌==◌, nat_lt, List, [], ◌∷◌, length, refl, slice_index_or, zero-lt-suc, arith}
+use Rattle.std.proofs.lemmas.Bool.{eqb-true, and_parts}
 use borrow.Author.Tests.{ltb-true}
 use Rattle.std.proofs.Math.Nat.{mul-le-mul}
 use Rattle.lattice_theory.proofs.Members.{Each, empty, more, all_from_each}
