@@ -2,11 +2,10 @@
 use Rattle.std.proofs.Common.{◌≡◌, ℕ, ◌<◌, ◌≤◌, List, [], ◌∷◌, ◌++◌, length, ℤ, None, Some, refl, sym, ◌∙◌, ap, subst, Contains, arith}
 use Rattle.std.proofs.lemmas.Option.{none-some, same_Some}
 use Rattle.std.proofs.lemmas.List.Elements.{All-contains, All-head, All-tail}
-use Rattle.lattice_core.specs.Weights.{Weighted, columns_of, monomial_point, IsMonomial}
+use Rattle.lattice_core.specs.Weights.{Weighted, columns_of, monomial_point}
 use Rattle.lattice_core.specs.declared.faults.Refusal.{Refusal}
 use Rattle.lattice_core.specs.declared.faults.Refusal.TheVariants.{Limit}
 use Rattle.lattice_core.specs.declared.faults.LimitName.TheVariants.{Frame, Dim, Monomials, Size}
-use Rattle.weight_points.specs.Members.{AreMonomials}
 use Rattle.weight_points.proofs.Collecting.{same_monomials}
 use Rattle.weight_frame.specs.Frame.{largest, entry_limit, coordinate_limit, AreWithinEntryLimit, IsFirstAboveLimit}
 use Rattle.weight_frame.specs.Answers.{ExceedsEntryLimit, IsFrameWithinLimit, HasOtherDimension}

@@ -1,13 +1,13 @@
 -- The vertices of points that aren't flat: they have the points' dimension and facets, no larger size, and the same lattice points.
-use Rattle.std.specs.Prelude.{◌↔◌, min, ℤ, pos, negsuc, nat_abs, ◌*ℤ◌, ◌≤ℤ◌}
+use Rattle.std.specs.Prelude.{◌↔◌, min, ℤ, pos, negsuc, ◌*ℤ◌, ◌≤ℤ◌}
 use Rattle.std.proofs.Common.{◌≡◌, ℕ, zero, suc, ◌+◌, ◌<◌, ◌≤◌, List, [], ◌∷◌, length, refl, ◌∙◌, arith}
-use Rattle.lattice_theory.specs.Vector.{entry, HaveDimension}
-use Rattle.lattice_theory.specs.Affine.{Affine, value, value_over, IsNonnegative, Vanishes}
+use Rattle.lattice_theory.specs.Vector.{HaveDimension}
+use Rattle.lattice_theory.specs.Affine.{Affine, value, IsNonnegative, Vanishes}
 use Rattle.lattice_theory.specs.Size.{reach, size}
 use Rattle.lattice_theory.specs.Hull.{AreVertices}
 use Rattle.lattice_theory.specs.Facet.{IsFlat, AreFacets}
 use Rattle.lattice_theory.specs.Points.{IsLatticePoint, AreLatticePoints, IsDilatePoint}
-use Rattle.lattice_theory.proofs.Integers.{one-*ℤ, minus_one-*ℤ, linear, products_out}
+use Rattle.lattice_theory.proofs.Integers.{minus_one-*ℤ, linear, products_out}
 use Rattle.lattice_core.specs.Limits.{size_limit_of}
 use Rattle.lattice_core.specs.Dimensions.{dimension_of}
 use Rattle.lattice_theory.proofs.Members.{In, here, there, each_from_all, all_from_each, each_from_in, each_in, in_from_contains, contains_from_in}
