@@ -7,6 +7,7 @@ pub mod Takes
 pub mod Alike
 pub mod SettledLines
 pub mod SettledItems
+pub mod SettledEnds
 pub mod NextAnswers
 pub mod Readings
 pub mod ItemForms

@@ -15,6 +15,8 @@ use Rattle.palp_input.specs.declared.fault.NextFault.{NextFault}
 use Rattle.palp_input.specs.declared.fault.NextFault.TheVariants.{Text, TooLong, Read, NoMemory}
 use Rattle.palp_input.specs.declared.item.Item.{Item}
 use Rattle.palp_input.proofs.SettledItems.{EndsBefore, item_before, fault_before, next_settled}
+use Rattle.palp_input.proofs.SettledEnds.{feed_last, whole_settled}
+use Rattle.std.proofs.lemmas.Bool.{cases_eq}
 use Rattle.palp_input.proofs.FaultPlaces.{fault_place}
 
 -- the first item of a text is known where it ends early enough
@@ -56,6 +58,16 @@ pub settled : (first more : List ℕ) → EndsBefore (length first) (next_of fir
 settled first more h =
     let same = append-nil first in
     next_settled first [] more (subst (λ (text : List ℕ). EndsBefore (length first) (next_of text)) (sym same) h) ∙ ap next_of same
+
+-- an item that ends with a line end in the beginning of a text is the first item of the text
+line_settled_item : (first more : List ℕ) (item : Listed) (end : ℕ) → 1 ≤ end → end ≤ length first → next_of first ≡ Given item end
+    → slice_index first (end - 1) ≡ line_feed → next_of (first ++ more) ≡ Given item end
+line_settled_item first more item end some inside e line = cases (cases_eq end (length first))
+  where
+    cases : ((end ≡ length first) ⊎ (end ≢ length first)) → next_of (first ++ more) ≡ Given item end
+    cases (inl all) = whole_settled first more (feed_last first (subst (λ (n : ℕ). 1 ≤ n) all some)
+        (subst (λ (n : ℕ). slice_index first (n - 1) ≡ line_feed) all line)) item end e
+    cases (inr less) = settled first more (subst (λ (n : Next). EndsBefore (length first) n) (sym e) (item_before (length first) item end (omega arith))) ∙ e
 
 -- nothing that ends early enough stands in a beginning that is longer: nor does it in the text
 pub beyond_settled : (room : ℕ) (first more : List ℕ) → room < length first → ends_within room (next_of first) ≡ Beyond
@@ -172,18 +184,14 @@ gives_item before now bytes held left left_now ended item end e some within most
   ended_unless = λ no_end. unless (λ line_end. no_end (ap (λ (xs : List ℕ). slice_index xs (end - 1)) e ∙ line_end));
 }
 
--- an item behind which a byte is held
-held_next : (before : ReaderState) (item : Listed) (end : ℕ) → end < length before.held → before.bytes + end ≤ most_bytes
-    → next_of before.held ≡ Given item end → (left : Option (List ℕ)) → IsNextItem before left (Known (Given item end))
-held_next before item end inside most first None = tt
-held_next before item end inside most first (Some left) =
+-- an item that is held with the line end behind it
+held_next : (before : ReaderState) (item : Listed) (end : ℕ) → 1 ≤ end → end ≤ length before.held → before.bytes + end ≤ most_bytes
+    → next_of before.held ≡ Given item end → slice_index before.held (end - 1) ≡ line_feed → (left : Option (List ℕ))
+    → IsNextItem before left (Known (Given item end))
+held_next before item end some inside most first line None = tt
+held_next before item end some inside most first line (Some left) =
     known_item (most_bytes - before.bytes) (before.held ++ left) item end
-    (settled before.held left (subst (λ (n : Next). EndsBefore (length before.held) n) (sym first) (item_before (length before.held) item end inside)) ∙ first)
-    (omega (arith, most))
-
-ends_line : (held : List ℕ) (end : ℕ) → IsLineEnd held end → end < length held → slice_index held (end - 1) ≡ line_feed
-ends_line held end (inl e) inside = absurd (omega (arith, e, inside))
-ends_line held end (inr e) inside = e
+    (line_settled_item before.held left item end some inside first line) (omega (arith, most))
 
 nothing_taken : (a b c : ℕ) → a + b ≤ c → a + b + 0 ≤ c
 nothing_taken a b c h = omega arith
@@ -199,9 +207,9 @@ module _ (before now : ReaderState) (left : Option (List ℕ)) (taken : List ℕ
     passes = Passes-none left taken;
     most = nothing_taken before.bytes (length before.held) (most_bytes + 1) most;
     later = at_least faults;
-    answer = gives_item before now [] before.held left left ended item h.end (append-nil before.held) h.some (omega (arith, h.inside)) h.within h.is_next h.passed
-        (held_next before (listed item) h.end h.inside h.within h.is_next left)
-        (λ no_end. absurd (no_end (ends_line before.held h.end h.line_ends h.inside)));
+    answer = gives_item before now [] before.held left left ended item h.end (append-nil before.held) h.some h.inside h.within h.is_next h.passed
+        (held_next before (listed item) h.end h.some h.inside h.within h.is_next h.line_ends left)
+        (λ no_end. absurd (no_end h.line_ends));
   }
 
   -- no memory for the item

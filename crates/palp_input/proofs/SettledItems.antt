@@ -174,7 +174,7 @@ module _ (first s t : List ℕ) where
       simp length-drop (subst (λ (xs : List ℕ). line_len xs < length first - after) ds (omega (arith, lt))) in
       ap (λ (xs : List ℕ). after + line_len xs) dt ∙ ap (λ (k : ℕ). after + k) (feed (drop after first) s t short) ∙ sym (ap (λ (xs : List ℕ). after + line_len xs) ds)
 
-  alike_behind : (end : ℕ) → end ≤ length first → Alike (length first) (pieces_of end (drop end (first ++ s))) (pieces_of end (drop end (first ++ t)))
+  pub alike_behind : (end : ℕ) → end ≤ length first → Alike (length first) (pieces_of end (drop end (first ++ s))) (pieces_of end (drop end (first ++ t)))
   alike_behind end le =
       rw (drop-append-le end first s le, drop-append-le end first t le)
       (alike_pieces end (length first) (drop end first) s t (simp length-drop (omega arith)))
@@ -213,7 +213,7 @@ module _ (first s t : List ℕ) where
   numbers_settled end (degree ∷ one ∷ two ∷ more) le h = refl
 
   -- the end of a line of pieces that are alike
-  line_alike : (size end : ℕ) (ps qs : List Piece) → Alike (length first) ps qs → LineEndsAt end ps → end ≤ length first → first_line_end size qs ≡ end
+  pub line_alike : (size end : ℕ) (ps qs : List Piece) → Alike (length first) ps qs → LineEndsAt end ps → end ≤ length first → first_line_end size qs ≡ end
   unfolding LineEndsAt
   line_alike size end ps qs (alike_apart _ _ fp fq) h le = absurd (not_below end (length first) le (line_ends_from (length first) end ps fp h))
   line_alike size end (Token u ∷ ps) (Token v ∷ qs) (alike_cut _ _ _ _ same low high other fp fq) h le =

@@ -249,9 +249,9 @@ module _ (first s t : List ℕ) where
   line_fault_settled is_first (LineEnd at ∷ ps) (_ ∷ qs) fault (alike_same _ _ _ some within rest) lt e = cc
 
 -- an entry in front of the others, and a fault, and what is missing
-record Inverted (rest : MatrixRead) (after : ℕ) : Type 0 where
-  entries : List ℤ
-  is : rest ≡ AllEntries entries after
+pub record Inverted (rest : MatrixRead) (after : ℕ) : Type 0 where
+  pub entries : List ℤ
+  pub is : rest ≡ AllEntries entries after
 
 before_inverted : (entry : ℤ) (rest : MatrixRead) (entries : List ℤ) (after : ℕ) → before_entries entry rest ≡ AllEntries entries after → Inverted rest after
 before_inverted entry (AllEntries more place) entries after e = record { entries = more; is = places more place entries after e }
@@ -262,7 +262,7 @@ before_inverted entry (AllEntries more place) entries after e = record { entries
 before_inverted entry (FaultyMatrix fault) entries after e = cc
 before_inverted entry MissingEntries entries after e = cc
 
-token_inverted : (at end : ℕ) (numeral : Numeral) (rest : MatrixRead) (entries : List ℤ) (after : ℕ)
+pub token_inverted : (at end : ℕ) (numeral : Numeral) (rest : MatrixRead) (entries : List ℤ) (after : ℕ)
     → matrix_token at end numeral rest ≡ AllEntries entries after → Inverted rest after
 token_inverted at end NoNumber rest entries after e = cc
 token_inverted at end TooLarge rest entries after e = cc

@@ -123,14 +123,14 @@ passed_by before end = record {
   live = true;
 }
 
--- an item behind which a byte is held
+-- an item that is held with the line end behind it
 pub record IsHeldItem (before now : ReaderState) (item : Item) : Type 0 where
   pub end : ℕ
   pub some : 1 ≤ end
-  pub inside : end < length before.held
+  pub inside : end ≤ length before.held
   pub within : before.bytes + end ≤ most_bytes
   pub is_next : next_of before.held ≡ Given (listed item) end
-  pub line_ends : IsLineEnd before.held end
+  pub line_ends : slice_index before.held (end - 1) ≡ line_feed
   pub passed : now ≡ passed_by before end
 
 abbrev pub HeldMeans : Result (Option Item) NextFault → ReaderState → ReaderState → Type 0

@@ -91,17 +91,17 @@ impl Reader {
         }
     }
 
-    /// The next item, where a byte behind it is held, too, so that no more bytes can change it.
+    /// The next item, where it is held with the line end behind it, so that no more bytes can change it.
     fn held_item(&mut self) -> Result<Option<Item>, NextFault>
         ensures { HeldMeans result self.old self.new }
     {
         let rest = &self.bytes[self.position..];
         match first_item(self.alloc, rest)? {
-            Found::Given(item, end) if end < rest.len() && self.passed_bytes + end <= MOST_BYTES =>
-                {
-                    self.pass(end);
-                    Ok(Some(item))
-                }
+            Found::Given(item, end)
+                if rest[end - 1] == b'\n' && self.passed_bytes + end <= MOST_BYTES => {
+                self.pass(end);
+                Ok(Some(item))
+            }
             _ => Ok(None),
         }
     }
