@@ -1,4 +1,7 @@
 use super::*;
+use crate::TextKind::{
+    BadByte, BadNumber, Lengths, MatrixShort, NoWeights, NumberRange, Quotient, WeightSum, ZeroColumn,
+};
 use lattice_core::WeightSystem;
 use palp_io::MemSource;
 use std::alloc::Global;
@@ -36,77 +39,136 @@ fn text_fault(kind: TextKind, line: u64, column: u64) -> Option<NextFault> {
     Some(NextFault::Text(TextFault { kind, line, column }))
 }
 
+/// A text, how many items it has before its fault, and the fault with its line and column.
+type FaultCase = (&'static str, usize, TextKind, u64, u64);
+
+fn first_line_faults() -> [FaultCase; 15] {
+    [
+        ("7", 0, NoWeights, 1, 1),
+        ("x", 0, BadNumber, 1, 1),
+        ("3 1 1 1 0", 0, ZeroColumn, 1, 9),
+        ("2 1 1 0 0 2 0 1 1", 0, Lengths, 1, 11),
+        ("3 1 1 -1 2", 0, NumberRange, 1, 7),
+        ("\x1f", 0, BadByte, 1, 1),
+        ("5 1 1 1 1", 0, WeightSum, 1, 1),
+        ("5 1 1 1 1 1 /Z5: 0 1 2 3 4", 0, Quotient, 1, 13),
+        ("/Z5", 0, BadNumber, 1, 1),
+        ("2\x01 3", 0, BadByte, 1, 2),
+        ("0 1 1", 0, NoWeights, 1, 1),
+        ("1000000000000000000", 0, NumberRange, 1, 1),
+        ("4 1 1 3", 0, WeightSum, 1, 1),
+        ("2 1 1 3 1 1", 0, WeightSum, 1, 7),
+        (" \t1 -1000000000000000000", 0, NumberRange, 1, 5),
+    ]
+}
+
+fn later_line_faults() -> [FaultCase; 11] {
+    [
+        ("3 1 1 1\n2 3\n0 1 0\n", 1, MatrixShort, 2, 1),
+        ("\n \t\r\n2 1\n1 +2", 0, BadNumber, 4, 3),
+        ("1 1\n1000000000000000000", 0, NumberRange, 2, 1),
+        ("1 1\n\x02", 0, BadByte, 2, 1),
+        ("1 1\n-1000000000000000000", 0, NumberRange, 2, 1),
+        ("\n\n  1 2 -", 0, MatrixShort, 3, 3),
+        ("1 1\n-", 0, BadNumber, 2, 1),
+        ("1 1\n--1", 0, BadNumber, 2, 1),
+        ("1 1\n1.5", 0, BadNumber, 2, 1),
+        ("2 1 1 2 1 1\n1 1\n7\n\t\t2 1 0 /Z", 2, Quotient, 4, 9),
+        ("2 1 1\n2 1 1 x\n1 0\n 0 1\n\n  7", 4, NoWeights, 6, 3),
+    ]
+}
+
 #[test]
 fn names_each_fault_with_its_place(rt: HostRuntime) -> Result<(), Fail> {
-    let cases = [
-        ("7", TextKind::NoWeights, 1, 1),
-        ("x", TextKind::BadNumber, 1, 1),
-        ("3 1 1 1 0", TextKind::ZeroColumn, 1, 9),
-        ("2 1 1 0 0 2 0 1 1", TextKind::Lengths, 1, 11),
-        ("3 1 1 -1 2", TextKind::NumberRange, 1, 7),
-        ("\x1f", TextKind::BadByte, 1, 1),
-        ("5 1 1 1 1", TextKind::WeightSum, 1, 1),
-        ("3 1 1 1\n2 3\n0 1 0\n", TextKind::MatrixShort, 2, 1),
-        ("5 1 1 1 1 1 /Z5: 0 1 2 3 4", TextKind::Quotient, 1, 13),
-        ("/Z5", TextKind::BadNumber, 1, 1),
-        ("2\x01 3", TextKind::BadByte, 1, 2),
-        ("0 1 1", TextKind::NoWeights, 1, 1),
-        ("\n \t\r\n2 1\n1 +2", TextKind::BadNumber, 4, 3),
-        ("1 1\n1000000000000000000", TextKind::NumberRange, 2, 1),
-        ("1000000000000000000", TextKind::NumberRange, 1, 1),
-        ("1 1\n\x02", TextKind::BadByte, 2, 1),
-        ("4 1 1 3", TextKind::WeightSum, 1, 1),
-        ("2 1 1 3 1 1", TextKind::WeightSum, 1, 7),
-        (" \t1 -1000000000000000000", TextKind::NumberRange, 1, 5),
-        ("1 1\n-1000000000000000000", TextKind::NumberRange, 2, 1),
-        ("\n\n  1 2 -", TextKind::MatrixShort, 3, 3),
-        ("1 1\n-", TextKind::BadNumber, 2, 1),
-        ("1 1\n--1", TextKind::BadNumber, 2, 1),
-        ("1 1\n1.5", TextKind::BadNumber, 2, 1),
-        (
-            "2 1 1 2 1 1\n1 1\n7\n\t\t2 1 0 /Z",
-            TextKind::Quotient,
-            4,
-            9,
-        ),
-    ];
-    for (text, kind, line, column) in cases {
-        for chunk in [1, 2, 7, 4_096] {
-            let (_, fault) = read_all(rt.alloc(), text.as_bytes(), chunk, 0)?;
-            assert_eq!(rt; fault, text_fault(kind, line, column), "{text}");
+    for chunk in [1, 2, 7, 4_096] {
+        for (text, count, kind, line, column) in first_line_faults() {
+            let read = read_all(rt.alloc(), text.as_bytes(), chunk, 0)?;
+            assert_eq!(rt; read, (count, text_fault(kind, line, column)), "{text}");
+        }
+        for (text, count, kind, line, column) in later_line_faults() {
+            let read = read_all(rt.alloc(), text.as_bytes(), chunk, 0)?;
+            assert_eq!(rt; read, (count, text_fault(kind, line, column)), "{text}");
         }
     }
     Ok(())
 }
 
+// Two faults at a time, in each order. The pairs that stand in no table can't stand in one item:
+// a header has no fault of a weight line, ignored text has none of its own, a line of one number
+// has no system, and nothing stands before a first token that isn't a number.
+
+fn pairs_with_bytes() -> [FaultCase; 16] {
+    [
+        ("1 2\n\x01 x", 0, BadByte, 2, 1),
+        ("1 2\nx \x01", 0, BadNumber, 2, 1),
+        ("x\x01", 0, BadNumber, 1, 1),
+        ("\x01x", 0, BadByte, 1, 1),
+        ("3 1 /Z\x01", 0, Quotient, 1, 5),
+        ("3 1 \x01/Z", 0, BadByte, 1, 5),
+        ("-1\x01", 0, NumberRange, 1, 1),
+        ("3 \x01 -1", 0, BadByte, 1, 3),
+        ("1 2\n1000000000000000000 \x01", 0, NumberRange, 2, 1),
+        ("1 2\n\x01 1000000000000000000", 0, BadByte, 2, 1),
+        ("2 2\n1 2 3 \x7f", 0, BadByte, 2, 7),
+        ("7 \u{80}", 0, BadByte, 1, 3),
+        ("0 1 1 \x01", 0, BadByte, 1, 7),
+        ("5 1 1 1 1 \x01", 0, BadByte, 1, 11),
+        ("2 1 1 0 0 2 0 1 1 \x01", 0, BadByte, 1, 19),
+        ("3 1 1 1 0 \x01", 0, BadByte, 1, 11),
+    ]
+}
+
+fn pairs_with_numbers() -> [FaultCase; 12] {
+    [
+        ("1 2\nx 1000000000000000000", 0, BadNumber, 2, 1),
+        ("1 2\n1000000000000000000 x", 0, NumberRange, 2, 1),
+        ("1 2 /Z\nx", 0, Quotient, 1, 5),
+        ("2 2\n1 2 3 x", 0, BadNumber, 2, 7),
+        ("3 -1 /Z", 0, NumberRange, 1, 3),
+        ("1 2 /Z\n1000000000000000000", 0, Quotient, 1, 5),
+        ("2 2\n1 2\n1000000000000000000", 0, NumberRange, 3, 1),
+        ("-1", 0, NumberRange, 1, 1),
+        ("0 1 -2", 0, NumberRange, 1, 5),
+        ("5 1 1000000000000000000", 0, NumberRange, 1, 5),
+        ("2 1 1 0 0 2 0 1 1 -1", 0, NumberRange, 1, 19),
+        ("3 1 1 1 0 -1", 0, NumberRange, 1, 11),
+    ]
+}
+
+fn pairs_with_systems() -> [FaultCase; 16] {
+    [
+        ("1 2 /Z\n5", 0, Quotient, 1, 5),
+        ("7 /Z", 0, Quotient, 1, 3),
+        ("0 1 1 /Z", 0, Quotient, 1, 7),
+        ("5 1 1 1 1 /Z", 0, Quotient, 1, 11),
+        ("2 1 1 0 0 2 0 1 1 /Z", 0, Quotient, 1, 19),
+        ("3 1 1 1 0 /Z", 0, Quotient, 1, 11),
+        ("0 1 2", 0, NoWeights, 1, 1),
+        ("0 0 2 1 1", 0, NoWeights, 1, 1),
+        ("0 0 0", 0, NoWeights, 1, 1),
+        ("2 1 1 3 1 1 1 3 1 1", 0, WeightSum, 1, 15),
+        ("2 1 1 3 3 2 1", 0, WeightSum, 1, 11),
+        ("2 1 1 0 3 1 1 0", 0, WeightSum, 1, 9),
+        ("2 1 1 0 2 1 1 0 0", 0, Lengths, 1, 9),
+        ("2 1 0 1 0 2 1 0 1 0", 0, ZeroColumn, 1, 5),
+        ("3 1 1 1\n\n7\nx", 1, NoWeights, 3, 1),
+        ("3 1 1 1\n\nx\n7", 1, BadNumber, 3, 1),
+    ]
+}
+
 #[test]
 fn names_the_first_of_two_faults(rt: HostRuntime) -> Result<(), Fail> {
-    let cases = [
-        ("1 2\n\x01 x", TextKind::BadByte, 2, 1),
-        ("1 2\nx \x01", TextKind::BadNumber, 2, 1),
-        ("x\x01", TextKind::BadNumber, 1, 1),
-        ("\x01x", TextKind::BadByte, 1, 1),
-        ("3 -1 /Z", TextKind::NumberRange, 1, 3),
-        ("3 1 /Z\x01", TextKind::Quotient, 1, 5),
-        ("3 1 \x01/Z", TextKind::BadByte, 1, 5),
-        ("-1\x01", TextKind::NumberRange, 1, 1),
-        ("2 2\n1 2 3 x", TextKind::BadNumber, 2, 7),
-        ("2 2\n1 2 3 \x7f", TextKind::BadByte, 2, 7),
-        ("2 2\n1 2\n1000000000000000000", TextKind::NumberRange, 3, 1),
-        ("7 /Z", TextKind::Quotient, 1, 3),
-        ("7 \u{80}", TextKind::BadByte, 1, 3),
-        ("0 1 -2", TextKind::NumberRange, 1, 5),
-        ("0 1 2", TextKind::NoWeights, 1, 1),
-        ("5 1 1000000000000000000", TextKind::NumberRange, 1, 5),
-        ("2 1 1 3 1 1 1 3 1 1", TextKind::WeightSum, 1, 15),
-        ("2 1 1 0 2 1 1 0 0", TextKind::Lengths, 1, 9),
-        ("2 1 0 1 0 2 1 0 1 0", TextKind::ZeroColumn, 1, 5),
-        ("2 1 1 3 3 2 1", TextKind::WeightSum, 1, 11),
-        ("3 1 1 1\n\n7\nx", TextKind::NoWeights, 3, 1),
-    ];
-    for (text, kind, line, column) in cases {
-        let (_, fault) = read_all(rt.alloc(), text.as_bytes(), 5, 0)?;
-        assert_eq!(rt; fault, text_fault(kind, line, column), "{text}");
+    for (text, count, kind, line, column) in pairs_with_bytes() {
+        let read = read_all(rt.alloc(), text.as_bytes(), 5, 0)?;
+        assert_eq!(rt; read, (count, text_fault(kind, line, column)), "{text}");
+    }
+    for (text, count, kind, line, column) in pairs_with_numbers() {
+        let read = read_all(rt.alloc(), text.as_bytes(), 5, 0)?;
+        assert_eq!(rt; read, (count, text_fault(kind, line, column)), "{text}");
+    }
+    for (text, count, kind, line, column) in pairs_with_systems() {
+        let read = read_all(rt.alloc(), text.as_bytes(), 5, 0)?;
+        assert_eq!(rt; read, (count, text_fault(kind, line, column)), "{text}");
     }
     Ok(())
 }
@@ -245,6 +307,52 @@ fn tells_a_failing_source(rt: HostRuntime) -> Result<(), Fail> {
 }
 
 #[test]
+fn answers_from_the_bytes_held(rt: HostRuntime) -> Result<(), Fail> {
+    let alloc = rt.alloc();
+    let bytes = Vec::from_slice(alloc, b"3 1 1 1\n2 1 1\n")?;
+    // The first call takes all bytes and the end, and each further take fails.
+    let mut source = MemSource::new(bytes, 4_096, vec![in alloc; 3, 4, 5]?);
+    let mut reader = Reader::new(alloc);
+    for (degree, count) in [(3, 3), (2, 2)] {
+        let system = WeightSystem {
+            degree,
+            weights: vec![in alloc; 1; count]?,
+        };
+        let item = Item::Weights(vec![in alloc; system]?);
+        assert!(rt; reader.is_live());
+        assert_eq!(rt; reader.next_item(&mut source), Ok(Some(item)));
+    }
+    assert!(rt; reader.is_live());
+    assert_eq!(rt; reader.next_item(&mut source), Err(NextFault::Read));
+    assert!(rt; !reader.is_live());
+    Ok(())
+}
+
+#[test]
+fn counts_lines_on_over_a_second_source(rt: HostRuntime) -> Result<(), Fail> {
+    let alloc = rt.alloc();
+    let bytes = Vec::from_slice(alloc, b"3 1 1 1\n0 0\n\n1 2\n4 5\n")?;
+    let mut first = MemSource::new(bytes, 4, Vec::new(alloc));
+    let mut reader = Reader::new(alloc);
+    for _ in 0..3 {
+        assert!(rt; reader.is_live());
+        assert!(rt; matches!(reader.next_item(&mut first), Ok(Some(_))));
+    }
+    let bytes = Vec::from_slice(alloc, b"2 1 1\n\n 7\n")?;
+    let mut second = MemSource::new(bytes, 4, Vec::new(alloc));
+    assert!(rt; reader.is_live());
+    assert!(rt; matches!(reader.next_item(&mut second), Ok(Some(_))));
+    assert!(rt; reader.is_live());
+    let fault = TextFault {
+        kind: NoWeights,
+        line: 8,
+        column: 2,
+    };
+    assert_eq!(rt; reader.next_item(&mut second), Err(NextFault::Text(fault)));
+    Ok(())
+}
+
+#[test]
 fn is_not_live_after_a_fault(rt: HostRuntime) -> Result<(), Fail> {
     let mut source = MemSource::new(Vec::new(rt.alloc()), 4, vec![in rt.alloc(); 1]?);
     let mut reader = Reader::new(rt.alloc());
@@ -281,27 +389,50 @@ fn filled(
 }
 
 #[test]
-fn reads_long_numbers_and_headers(rt: HostRuntime) -> Result<(), Fail> {
+fn reads_long_numbers(rt: HostRuntime) -> Result<(), Fail> {
     let alloc = rt.alloc();
-    let long = filled(alloc, b"1", b'0', 1_000_000, b" 1")?;
+    let long = filled(alloc, b"1", b'0', 9_999_999, b" 1")?;
     assert_eq!(rt;
         read_all(alloc, &long, 4_096, 0)?,
-        (0, text_fault(TextKind::NumberRange, 1, 1))
+        (0, text_fault(NumberRange, 1, 1))
     );
-    let zeros = filled(alloc, b"2 ", b'0', 1_000_000, b"1 1")?;
+    let zeros = filled(alloc, b"2 ", b'0', 9_999_999, b"1 1")?;
     assert_eq!(rt; read_all(alloc, &zeros, 4_096, 0)?, (1, None));
-    let blanks = filled(alloc, b"2 1", b' ', 1_000_000, b"1 x")?;
+    let blanks = filled(alloc, b"2 1", b' ', 10_000_000, b"1 x")?;
     assert_eq!(rt; read_all(alloc, &blanks, 4_096, 0)?, (1, None));
-    let short = (0, text_fault(TextKind::MatrixShort, 1, 1));
-    assert_eq!(rt; read_all(alloc, b"100000000000000000 1\n5", 7, 0)?, short);
-    assert_eq!(rt;
-        read_all(alloc, b"999999999999999999 999999999999999999\n5", 7, 0)?,
-        short
-    );
-    assert_eq!(rt;
-        read_all(alloc, b"4294967296 4294967296\n5\n", 7, 0)?,
-        short
-    );
+    Ok(())
+}
+
+#[test]
+fn reads_headers_of_large_numbers(rt: HostRuntime) -> Result<(), Fail> {
+    let texts = [
+        "100000000000000000 1\n5",
+        "999999999999999999 999999999999999999\n5",
+        "4294967296 4294967296\n5\n",
+    ];
+    for text in texts {
+        assert_eq!(rt;
+            read_all(rt.alloc(), text.as_bytes(), 7, 0)?,
+            (0, text_fault(MatrixShort, 1, 1))
+        );
+    }
+    Ok(())
+}
+
+#[test]
+fn reads_a_matrix_of_many_entries(rt: HostRuntime) -> Result<(), Fail> {
+    let mut text = Vec::from_slice(rt.alloc(), b"1 30000000\n")?;
+    for _ in 0..30_000_000 {
+        text.extend_from_slice(b"0 ")?;
+    }
+    assert_eq!(rt; read_all(rt.alloc(), &text, 4_096, 0)?, (1, None));
+    Ok(())
+}
+
+#[test]
+fn ignores_a_long_text(rt: HostRuntime) -> Result<(), Fail> {
+    let text = filled(rt.alloc(), b"2 1 1 x", b'y', 60_000_000, b"")?;
+    assert_eq!(rt; read_all(rt.alloc(), &text, 4_096, 0)?, (1, None));
     Ok(())
 }
 
@@ -338,43 +469,45 @@ fn read_full(
     read_all(alloc, &text, 4_096, 0)
 }
 
-#[test]
-fn reads_as_many_bytes_as_a_text_may_have(rt: HostRuntime) -> Result<(), Fail> {
-    let cases = [
+/// What stands last, what stands behind, how many items are given, and the fault.
+type FullCase = (&'static str, &'static str, usize, Option<NextFault>);
+
+fn full_texts() -> [FullCase; 10] {
+    let too_long = Some(NextFault::TooLong);
+    [
         ("2 1 1", "", 1, None),
         ("2 1 1\n", "", 1, None),
-        ("2 1 1", " ", 0, Some(NextFault::TooLong)),
-        ("2 1 1\n", " ", 1, Some(NextFault::TooLong)),
-        ("2 1 1\n", "2 1 1\n", 1, Some(NextFault::TooLong)),
+        ("2 1 1", " ", 0, too_long),
+        ("2 1 1\n", " ", 1, too_long),
+        ("2 1 1\n", "2 1 1\n", 1, too_long),
         ("", "", 0, None),
-        ("", "\n", 0, Some(NextFault::TooLong)),
-        ("x", " ", 0, text_fault(TextKind::BadNumber, 1, 67_108_864)),
+        ("", "\n", 0, too_long),
+        ("7", " ", 0, too_long),
+        ("1 1\n5", " ", 0, too_long),
+        ("1 1\n", " ", 0, too_long),
+    ]
+}
+
+fn full_texts_with_faults() -> [FullCase; 7] {
+    let last = 67_108_864;
+    [
+        ("x", " ", 0, text_fault(BadNumber, 1, last)),
         ("x", "y", 0, Some(NextFault::TooLong)),
-        ("x", "", 0, text_fault(TextKind::BadNumber, 1, 67_108_864)),
-        ("\x01", "y", 0, text_fault(TextKind::BadByte, 1, 67_108_864)),
-        (
-            "3 1 /Z",
-            "5",
-            0,
-            text_fault(TextKind::Quotient, 1, 67_108_863),
-        ),
-        ("7", " ", 0, Some(NextFault::TooLong)),
-        (
-            "7\n",
-            " ",
-            0,
-            text_fault(TextKind::NoWeights, 1, 67_108_863),
-        ),
-        ("1 1\n5", " ", 0, Some(NextFault::TooLong)),
-        ("1 1\n", " ", 0, Some(NextFault::TooLong)),
-        (
-            "1 1\n",
-            "",
-            0,
-            text_fault(TextKind::MatrixShort, 1, 67_108_861),
-        ),
-    ];
-    for (last, behind, count, fault) in cases {
+        ("x", "", 0, text_fault(BadNumber, 1, last)),
+        ("\x01", "y", 0, text_fault(BadByte, 1, last)),
+        ("3 1 /Z", "5", 0, text_fault(Quotient, 1, last - 1)),
+        ("7\n", " ", 0, text_fault(NoWeights, 1, last - 1)),
+        ("1 1\n", "", 0, text_fault(MatrixShort, 1, last - 3)),
+    ]
+}
+
+#[test]
+fn reads_as_many_bytes_as_a_text_may_have(rt: HostRuntime) -> Result<(), Fail> {
+    for (last, behind, count, fault) in full_texts() {
+        let read = read_full(rt.alloc(), last.as_bytes(), behind.as_bytes())?;
+        assert_eq!(rt; read, (count, fault), "{last}");
+    }
+    for (last, behind, count, fault) in full_texts_with_faults() {
         let read = read_full(rt.alloc(), last.as_bytes(), behind.as_bytes())?;
         assert_eq!(rt; read, (count, fault), "{last}");
     }
