@@ -93,9 +93,8 @@ fn names_each_fault_with_its_place(rt: HostRuntime) -> Result<(), Fail> {
     Ok(())
 }
 
-// Two faults at a time, in each order. The pairs that stand in no table can't stand in one item:
-// a header has no fault of a weight line, ignored text has none of its own, a line of one number
-// has no system, and nothing stands before a first token that isn't a number.
+// Two faults at a time, in each order. The pairs that stand in no table can't stand in one item: a
+// header has no fault of a weight line, and behind a first token that isn't a number all is ignored.
 
 fn pairs_with_bytes() -> [FaultCase; 16] {
     [

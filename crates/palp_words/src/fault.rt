@@ -16,7 +16,9 @@ pub enum WordKind {
     Range,
     /// The word stands behind the last one that the command takes.
     Extra,
-    /// The word excludes one before it, or one of its letters another.
+    /// The word can't stand with those before it: it is the second `-c` word of `nef`, or with it
+    /// both of two letters stand that exclude each other, which are `p` and `H` of `nef`, and `n` and
+    /// one of `a`, `d` and `D` of `poly`. The word is told with which the second of them stands.
     Conflict,
 }
 

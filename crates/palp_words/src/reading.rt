@@ -67,12 +67,44 @@ mod tests {
             ("poly -na", WordKind::Conflict, 2),
             ("poly -n -d", WordKind::Conflict, 3),
             ("poly -an", WordKind::Conflict, 2),
+            ("poly -nD", WordKind::Conflict, 2),
+            ("poly -D -r -n", WordKind::Conflict, 4),
+            ("sweep 2 6 3", WordKind::Range, 4),
+            ("cws -w2 6 3", WordKind::Range, 4),
         ];
         for (line, kind, index) in cases {
             assert_eq!(rt;
                 read(&rt, rt.alloc(), line)?,
                 Err(WordFault { index, kind })
             );
+        }
+        Ok(())
+    }
+
+    #[test]
+    fn refuses_empty_words_and_bytes_above_127(rt: HostRuntime) -> Result<(), Fail> {
+        let cases = [
+            ("poly", "", WordKind::Flag, 2),
+            ("nef", "", WordKind::Flag, 2),
+            ("cws", "", WordKind::Flag, 2),
+            ("sweep", "", WordKind::Number, 2),
+            ("", "poly", WordKind::Command, 1),
+            ("poly", "-\u{e9}", WordKind::Flag, 2),
+            ("poly", "-n\u{e9}", WordKind::Flag, 2),
+            ("nef", "-c\u{b2}", WordKind::Number, 2),
+            ("nef", "-p\u{e9}", WordKind::Flag, 2),
+            ("cws", "-w\u{663}", WordKind::Number, 2),
+            ("cws", "-r\u{e9}", WordKind::Flag, 2),
+            ("sweep", "\u{ff12}", WordKind::Number, 2),
+            ("poly\u{e9}", "-n", WordKind::Command, 1),
+        ];
+        for (command, word, kind, index) in cases {
+            let alloc = rt.alloc();
+            let first = String::from_str(alloc, command)?;
+            let second = String::from_str(alloc, word)?;
+            let words = vec![in alloc; first, second]?;
+            assert_eq!(rt; words.len(), 2);
+            assert_eq!(rt; read_words(&words), Err(WordFault { index, kind }));
         }
         Ok(())
     }
@@ -106,134 +138,150 @@ mod tests {
         Ok(())
     }
 
-    #[test]
-    fn reads_good_words(rt: HostRuntime) -> Result<(), Fail> {
-        let none = PolyFlags {
-            general: false,
-            points: false,
-            vertices: false,
-            equations: false,
-            matrix: false,
-            dual_points: false,
-            incidence: false,
-            reflexive_only: false,
-            dual_input: false,
-            plain: false,
+    /// No letter of `poly` is on.
+    const NO_FLAGS: PolyFlags = PolyFlags {
+        general: false,
+        points: false,
+        vertices: false,
+        equations: false,
+        matrix: false,
+        dual_points: false,
+        incidence: false,
+        reflexive_only: false,
+        dual_input: false,
+        plain: false,
+    };
+
+    fn good_letters() -> [(&'static str, PolyFlags); 5] {
+        let general = PolyFlags {
+            general: true,
+            ..NO_FLAGS
+        };
+        let plain = PolyFlags {
+            plain: true,
+            reflexive_only: true,
+            ..general
+        };
+        let dual = PolyFlags {
+            incidence: true,
+            dual_input: true,
+            ..NO_FLAGS
         };
         let all = PolyFlags {
-            general: true,
             points: true,
             vertices: true,
             equations: true,
             matrix: true,
             dual_points: true,
-            ..none
+            ..general
         };
-        let cases = [
-            (
-                "poly",
-                Job::Poly(PolyFlags {
-                    general: true,
-                    ..none
-                }),
-            ),
-            (
-                "poly -n -rr",
-                Job::Poly(PolyFlags {
-                    general: true,
-                    plain: true,
-                    reflexive_only: true,
-                    ..none
-                }),
-            ),
-            (
-                "poly -D -i",
-                Job::Poly(PolyFlags {
-                    incidence: true,
-                    dual_input: true,
-                    ..none
-                }),
-            ),
-            ("poly -a", Job::Poly(all)),
-            ("poly -gpv -emd", Job::Poly(all)),
-            (
-                "nef",
-                Job::Nef(NefWords {
-                    codim: 2,
-                    list_only: false,
-                    full: false,
-                }),
-            ),
-            (
-                "nef -c003 -pp",
-                Job::Nef(NefWords {
-                    codim: 3,
-                    list_only: true,
-                    full: false,
-                }),
-            ),
-            (
-                "nef -H -c1",
-                Job::Nef(NefWords {
-                    codim: 1,
-                    list_only: false,
-                    full: true,
-                }),
-            ),
-            (
-                "cws -w3 4 66",
-                Job::Cws(CwsWords {
-                    dim: 3,
-                    low: 4,
-                    high: 66,
-                    reflexive_only: false,
-                }),
-            ),
-            (
-                "cws -r -w5 1 250",
-                Job::Cws(CwsWords {
-                    dim: 5,
-                    low: 1,
-                    high: 250,
-                    reflexive_only: true,
-                }),
-            ),
-            (
-                "cws -w1 7 4095 -r -r",
-                Job::Cws(CwsWords {
-                    dim: 1,
-                    low: 7,
-                    high: 4_095,
-                    reflexive_only: true,
-                }),
-            ),
-            (
-                "sweep 2 3 6",
-                Job::Sweep(SweepWords {
-                    dim: 2,
-                    low: 3,
-                    high: 6,
-                }),
-            ),
-        ];
-        for (line, job) in cases {
-            assert_eq!(rt; read(&rt, rt.alloc(), line)?, Ok(job));
+        [
+            ("poly", general),
+            ("poly -n -rr", plain),
+            ("poly -D -i", dual),
+            ("poly -a", all),
+            ("poly -gpv -emd", all),
+        ]
+    }
+
+    #[test]
+    fn reads_letters(rt: HostRuntime) -> Result<(), Fail> {
+        for (line, flags) in good_letters() {
+            assert_eq!(rt;
+                read(&rt, rt.alloc(), line)?,
+                Ok(Job::Poly(flags)),
+                "{line}"
+            );
         }
         Ok(())
     }
 
     #[test]
-    fn reads_many_words(rt: HostRuntime) -> Result<(), Fail> {
-        let alloc = rt.alloc();
-        let mut words = Vec::new(alloc);
-        words.push(String::from_str(alloc, "cws")?)?;
-        for _ in 0..131_072 {
-            words.push(String::from_str(alloc, "-r")?)?;
+    fn reads_codimensions(rt: HostRuntime) -> Result<(), Fail> {
+        let cases = [
+            ("nef", 2, false, false),
+            ("nef -c003 -pp", 3, true, false),
+            ("nef -H -c1", 1, false, true),
+        ];
+        for (line, codim, list_only, full) in cases {
+            let words = NefWords {
+                codim,
+                list_only,
+                full,
+            };
+            assert_eq!(rt; read(&rt, rt.alloc(), line)?, Ok(Job::Nef(words)), "{line}");
         }
+        Ok(())
+    }
+
+    #[test]
+    fn reads_degrees(rt: HostRuntime) -> Result<(), Fail> {
+        let cases = [
+            ("cws -w3 4 66", 3, 4, 66, false),
+            ("cws -r -w5 1 250", 5, 1, 250, true),
+            ("cws -w1 7 4095 -r -r", 1, 7, 4_095, true),
+        ];
+        for (line, dim, low, high, reflexive_only) in cases {
+            let words = CwsWords {
+                dim,
+                low,
+                high,
+                reflexive_only,
+            };
+            assert_eq!(rt; read(&rt, rt.alloc(), line)?, Ok(Job::Cws(words)), "{line}");
+        }
+        let words = SweepWords {
+            dim: 2,
+            low: 3,
+            high: 6,
+        };
+        assert_eq!(rt;
+            read(&rt, rt.alloc(), "sweep 2 3 6")?,
+            Ok(Job::Sweep(words))
+        );
+        Ok(())
+    }
+
+    /// A word so many times behind others.
+    fn repeat(alloc: Global, mut words: Vec<String>, word: &str) -> Result<Vec<String>, Fail> {
+        for _ in 0..131_072 {
+            words.push(String::from_str(alloc, word)?)?;
+        }
+        Ok(words)
+    }
+
+    #[test]
+    fn reads_many_options(rt: HostRuntime) -> Result<(), Fail> {
+        let alloc = rt.alloc();
+        let command = vec![in alloc; String::from_str(alloc, "cws")?]?;
+        let words = repeat(alloc, command, "-r")?;
         assert!(rt; words.len() < 1_000_000);
         let fault = WordFault {
             index: 131_074,
             kind: WordKind::Missing,
+        };
+        assert_eq!(rt; read_words(&words), Err(fault));
+        Ok(())
+    }
+
+    #[test]
+    fn reads_many_letters(rt: HostRuntime) -> Result<(), Fail> {
+        let alloc = rt.alloc();
+        let command = String::from_str(alloc, "poly")?;
+        let plain = String::from_str(alloc, "-n")?;
+        let mut words = repeat(alloc, vec![in alloc; command, plain]?, "-ng")?;
+        assert!(rt; words.len() < 1_000_000);
+        let flags = PolyFlags {
+            general: true,
+            plain: true,
+            ..NO_FLAGS
+        };
+        assert_eq!(rt; read_words(&words), Ok(Job::Poly(flags)));
+        words.push(String::from_str(alloc, "-d")?)?;
+        assert!(rt; words.len() < 1_000_000);
+        let fault = WordFault {
+            index: 131_075,
+            kind: WordKind::Conflict,
         };
         assert_eq!(rt; read_words(&words), Err(fault));
         Ok(())
