@@ -5,7 +5,8 @@ use Rattle.std.specs.List.{starts_with}
 use Rattle.std.proofs.lemmas.List.{drop_all}
 use Rattle.std.proofs.lemmas.Bool.Decides.{nat_tests}
 use lib.Chars.{codes}
-use Rattle.palp_input.specs.Pieces.{is_blank, is_token_byte, line_feed, join_token, pieces_of, place_of, first_line_end}
+use Rattle.palp_input.specs.Pieces.{is_blank, is_token_byte, line_feed, join_token, pieces_of, first_line_end}
+use Rattle.palp_input.specs.PieceSteps.{place_of}
 use Rattle.palp_input.specs.Numerals.{numeral_of}
 use Rattle.palp_input.specs.Lines.{LineRead, LeadingNumbers, FaultyLine, before_line, line_read, line_token, fault_at, MatrixRead, AllEntries, FaultyMatrix, MissingEntries, matrix_read, matrix_token}
 use Rattle.palp_input.specs.Systems.{Taken, before_taken, take_weights, PlacedSystem, SystemsRead, Summed, WrongSum, before_systems, systems_read, other_length, is_zero_column, zero_column, weighted_of}

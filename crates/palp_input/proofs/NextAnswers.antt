@@ -7,8 +7,10 @@ use Rattle.std.proofs.lemmas.Bool.Decides.{nat_tests}
 use Rattle.palp_io.specs.Source.{Passes}
 use Rattle.palp_io.proofs.SourceLemmas.{Passes-none, Passes-told}
 use Rattle.palp_input.specs.Pieces.{line_feed}
-use Rattle.palp_input.specs.Grammar.{IsLineEnd, Listed, listed, Next, Nothing, Given, Faulty, Known, Beyond, next_within, ends_within, next_of, most_bytes, line_feeds, column_behind, text_fault}
-use Rattle.palp_input.specs.Reading.{ReaderState, IsReader, IsNextItem, GivesItem, NextMeans, AnswerMeans, IsHeldItem, HeldMeans, HasEnded, TakeAllMeans, LastMeans}
+use Rattle.palp_input.specs.ItemSteps.{IsLineEnd}
+use Rattle.palp_input.specs.Grammar.{Listed, listed, Next, Nothing, Given, Faulty, Known, Beyond, next_within, ends_within, next_of, most_bytes, line_feeds, column_behind, text_fault}
+use Rattle.palp_input.specs.Reading.{ReaderState, IsNextItem, GivesItem, NextMeans, AnswerMeans, HasEnded}
+use Rattle.palp_input.specs.ReaderSteps.{IsReader, IsHeldItem, HeldMeans, TakeAllMeans, LastMeans}
 use Rattle.palp_input.specs.declared.fault.ItemFault.{ItemFault}
 use Rattle.palp_input.specs.declared.fault.TextFault.{TextFault}
 use Rattle.palp_input.specs.declared.fault.NextFault.{NextFault}

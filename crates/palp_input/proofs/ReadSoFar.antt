@@ -2,14 +2,16 @@
 use Rattle.std.proofs.Common.{◌≡◌, ℕ, suc, ◌+◌, ◌-◌, ◌<◌, ℤ, Bool, false, List, [], ◌∷◌, ◌++◌, length, drop, slice_range, refl, sym, ap, ◌∙◌, arith}
 use Rattle.std.specs.Prelude.{◌==◌}
 use Rattle.std.proofs.lemmas.Bool.Decides.{nat_tests}
-use Rattle.palp_input.specs.Pieces.{without_line_ends, pieces_of, IsWithin}
+use Rattle.palp_input.specs.PieceSteps.{without_line_ends, IsWithin}
+use Rattle.palp_input.specs.Pieces.{pieces_of}
 use Rattle.palp_input.specs.declared.pieces.Span.{Span}
 use Rattle.palp_input.specs.declared.matrices.Part.{Part}
 use Rattle.palp_input.specs.declared.matrices.Part.TheVariants.{Entry, Fault, Missing}
 use Rattle.palp_input.specs.declared.pieces.Piece.{Piece}
 use Rattle.palp_input.specs.declared.pieces.Piece.TheVariants.{Token, Wrong, LineEnd}
 use Rattle.palp_input.specs.Numerals.{numeral_of}
-use Rattle.palp_input.specs.Lines.{LineRead, LeadingNumbers, FaultyLine, before_line, MatrixRead, AllEntries, FaultyMatrix, MissingEntries, before_entries, matrix_read, matrix_token, entry_in_front, EntryEndsAt, EntryMeans}
+use Rattle.palp_input.specs.Lines.{LineRead, LeadingNumbers, FaultyLine, before_line, MatrixRead, AllEntries, FaultyMatrix, MissingEntries, before_entries, matrix_read, matrix_token}
+use Rattle.palp_input.specs.LineSteps.{entry_in_front, EntryEndsAt, EntryMeans}
 use Rattle.palp_input.specs.declared.lines.LineNumber.{LineNumber}
 use Rattle.palp_input.specs.declared.fault.ItemFault.{ItemFault}
 

@@ -4,7 +4,8 @@ use Rattle.std.specs.Prelude.{◌==◌, slice_index, slice_range}
 use Rattle.std.proofs.lemmas.Bool.{cases_eq}
 use Rattle.std.proofs.Math.Seq.{drop-length}
 use Rattle.std.proofs.lemmas.List.{append-nil, drop-append-le}
-use Rattle.palp_input.specs.Pieces.{is_blank, is_token_byte, line_feed, join_token, pieces_of, first_line_end, line_len, end_of}
+use Rattle.palp_input.specs.Pieces.{is_blank, is_token_byte, line_feed, join_token, pieces_of, first_line_end, line_len}
+use Rattle.palp_input.specs.PieceSteps.{end_of}
 use Rattle.palp_input.specs.Numerals.{numeral_of}
 use Rattle.palp_input.specs.Lines.{LineRead, LeadingNumbers, FaultyLine, line_read, MatrixRead, AllEntries, FaultyMatrix, MissingEntries, matrix_read}
 use Rattle.palp_input.specs.Grammar.{Listed, ListedPoints, Given, line_end, matrix_item, numbers_item, line_item, pieces_item, next_of}

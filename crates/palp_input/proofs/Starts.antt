@@ -3,7 +3,8 @@ use Rattle.std.proofs.Common.{◌≡◌, ℕ, ◌+◌, ◌≤◌, List, [], ◌�
 use Rattle.std.specs.Prelude.{◌==◌}
 use Rattle.std.proofs.lemmas.Bool.Decides.{nat_tests}
 use Rattle.palp_input.proofs.TokenRuns.{step_by}
-use Rattle.palp_input.specs.Pieces.{is_blank, is_token_byte, line_feed, join_token, pieces_of, without_line_ends, first_line_end, line_len}
+use Rattle.palp_input.specs.Pieces.{is_blank, is_token_byte, line_feed, join_token, pieces_of, first_line_end, line_len}
+use Rattle.palp_input.specs.PieceSteps.{without_line_ends}
 use Rattle.palp_input.specs.Lines.{line_read}
 use Rattle.palp_input.specs.Grammar.{pieces_item, line_item, line_end, next_of}
 use Rattle.palp_input.specs.declared.pieces.Piece.{Piece}

@@ -5,7 +5,8 @@ use Rattle.std.proofs.lemmas.Bool.Decides.{nat_tests}
 use Rattle.std.proofs.lemmas.List.{take_more, drop_more, drop_all, get_or-drop, map_push}
 use Rattle.lattice_core.specs.Weights.{Weighted, weighted}
 use Rattle.lattice_core.specs.declared.weights.WeightSystem.{WeightSystem}
-use Rattle.palp_input.specs.Systems.{Taken, before_taken, take_weights, TakesUpTo, PlacedSystem, SystemsRead, Summed, WrongSum, before_systems, systems_read, weight_at, weighted_of, placed_of}
+use Rattle.palp_input.specs.Systems.{Taken, before_taken, take_weights, PlacedSystem, SystemsRead, Summed, WrongSum, before_systems, systems_read, weight_at, weighted_of}
+use Rattle.palp_input.specs.SystemSteps.{TakesUpTo, placed_of}
 use Rattle.palp_input.specs.declared.lines.LineNumber.{LineNumber}
 use Rattle.palp_input.specs.declared.systems.PlacedSystem.{PlacedSystem as KeptSystem}
 

@@ -1,6 +1,7 @@
 -- The items of a text: the first item with its end, or its fault, and all items with the ending.
--- Places are counted from 0, lines and columns from 1. This project's own.
-use Rattle.std.specs.Prelude.{◌≡◌, ◌⊎◌, slice_index, ℕ, ◌<◌, ◌+◌, ◌-◌, ◌*◌, ℤ, true, List, [], ◌∷◌, map, length, take, drop, zero, suc, Some, None, if◌then◌else◌, ◌==◌, nat_le}
+-- Places are counted from 0, lines and columns from 1. Weight lines and matrices with a header follow
+-- PALP's manual, arXiv:1205.4147, section 3; the grammar and its faults are this project's own.
+use Rattle.std.specs.Prelude.{ℕ, ◌+◌, ◌-◌, ◌*◌, ℤ, true, List, [], ◌∷◌, map, length, take, drop, zero, suc, Some, None, if◌then◌else◌, ◌==◌, nat_le}
 use Rattle.std.specs.List.{count_by}
 use Rattle.lattice_core.specs.Weights.{Weighted, weighted}
 use Rattle.palp_input.specs.Pieces.{pieces_of, first_line_end, line_len, line_feed}
@@ -91,15 +92,6 @@ pieces_item text (Token token ∷ pieces) =
 
 abbrev pub next_of : List ℕ → Next
 next_of text = pieces_item text (pieces_of 0 text)
-
--- the place stands behind a line end, or at the end of the text
-abbrev pub IsLineEnd : List ℕ → ℕ → Type 0
-IsLineEnd text end = (end ≡ length text) ⊎ (slice_index text (end - 1) ≡ line_feed)
-
--- the first item of a text begins at the place
-pub record StartsAt (text : List ℕ) (start : ℕ) : Type 0 where
-  pub within : start < length text
-  pub is_next : next_of text ≡ line_item text (line_end text start) (line_read text true (pieces_of start (drop start text)))
 
 -- the most bytes of a text
 abbrev pub most_bytes : ℕ

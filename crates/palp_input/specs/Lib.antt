@@ -8,3 +8,8 @@ pub mod Systems
 pub mod Grammar
 pub mod Reading
 pub mod Laws
+pub mod ReaderSteps
+pub mod LineSteps
+pub mod PieceSteps
+pub mod SystemSteps
+pub mod ItemSteps

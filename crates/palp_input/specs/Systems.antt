@@ -1,11 +1,9 @@
--- The weight systems of a line of numbers. This project's own.
-use Rattle.std.specs.Prelude.{◌≡◌, ℕ, ◌+◌, ◌-◌, ◌≤◌, Bool, List, [], ◌∷◌, map, length, drop, slice_range, zero, suc, Option, Some, None, if◌then◌else◌, ◌==◌, nat_le}
+-- The weight systems of a line of numbers. Weight lines follow PALP's manual, arXiv:1205.4147, section 3;
+-- where a system ends, and the faults, are this project's own.
+use Rattle.std.specs.Prelude.{ℕ, ◌+◌, ◌-◌, Bool, List, [], ◌∷◌, map, length, zero, suc, Option, Some, None, if◌then◌else◌, ◌==◌, nat_le}
 use Rattle.std.specs.List.{list_all}
 use Rattle.lattice_core.specs.Weights.{Weighted}
 use Rattle.palp_input.specs.declared.lines.LineNumber.{LineNumber}
-use Rattle.palp_input.specs.declared.systems.PlacedSystem.{PlacedSystem as KeptSystem}
-use Rattle.palp_input.specs.declared.systems.Systems.{Systems}
-use Rattle.palp_input.specs.declared.systems.Systems.TheVariants.{Summed as KeptSummed, WrongSum as KeptWrongSum}
 
 -- the numbers in front that are weights, and the numbers behind them
 pub record Taken : Type 0 where
@@ -72,17 +70,3 @@ zero_column place (number ∷ numbers) systems =
 
 abbrev pub weighted_of : PlacedSystem → Weighted
 weighted_of system = record { degree = system.degree.value; weights = map (λ (n : LineNumber). n.value) system.weights }
-
--- what the code keeps, as contracts see it
-abbrev pub placed_of : KeptSystem → PlacedSystem
-placed_of system = record { degree = system.degree; weights = system.weights.items }
-
-abbrev pub systems_read_of : Systems → SystemsRead
-systems_read_of (KeptSummed systems) = Summed (map placed_of systems.items)
-systems_read_of (KeptWrongSum at) = WrongSum at
-
--- the weights from a place up to another are taken, and the numbers from there on are the rest
-pub record TakesUpTo (numbers : List LineNumber) (from degree end : ℕ) : Type 0 where
-  pub least : from ≤ end
-  pub most : end ≤ length numbers
-  pub taken : take_weights degree (drop from numbers) ≡ Some (record { weights = slice_range numbers from end; rest = drop end numbers })

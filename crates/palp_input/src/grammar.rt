@@ -1,10 +1,11 @@
 // The first item of a text.
 ghost use Rattle.std.specs.Prelude.{◌≡◌, ℕ, ◌≤◌, List, length, map, IfOk, MatchOption};
 ghost use Rattle.palp_input.specs.Lines.{fault_at};
-ghost use Rattle.palp_input.specs.Systems.{placed_of};
-ghost use Rattle.palp_input.specs.Grammar.{IsLineEnd, Nothing, Faulty, next_of, numbers_item, header_item, weights_item, summed_item, StartsAt};
+ghost use Rattle.palp_input.specs.SystemSteps.{placed_of};
+ghost use Rattle.palp_input.specs.ItemSteps.{IsLineEnd, StartsAt};
+ghost use Rattle.palp_input.specs.Grammar.{Nothing, Faulty, next_of, numbers_item, header_item, weights_item, summed_item};
 ghost use Rattle.palp_input.specs.declared.fault.TextKind.TheVariants.{NoWeights};
-ghost use Rattle.palp_input.specs.Reading.{EndsIn, EndsLine, told};
+ghost use Rattle.palp_input.specs.ItemSteps.{EndsIn, EndsLine, told};
 
 use crate::fault::{ItemFault, TextKind};
 use crate::item::{Item, Matrix};

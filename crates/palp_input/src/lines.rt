@@ -2,7 +2,8 @@
 ghost use Rattle.std.specs.Prelude.{◌≡◌, ℕ, ◌+◌, ◌≤◌, ◌<◌, ◌^◌, Bool, true, List, length, drop, slice_range, IfOk};
 ghost use Rattle.palp_input.specs.Numerals.{numeral_of};
 ghost use Rattle.palp_input.specs.Pieces.{pieces_of};
-ghost use Rattle.palp_input.specs.Lines.{LineRead, line_read, line_read_of, line_token, other_token, PartMeans, part_in_front, EndsAt, LineWithin, PartWithin};
+ghost use Rattle.palp_input.specs.Lines.{LineRead, line_read, line_token, other_token};
+ghost use Rattle.palp_input.specs.LineSteps.{line_read_of, PartMeans, part_in_front, EndsAt, LineWithin, PartWithin};
 ghost use Rattle.palp_input.specs.declared.numerals.Numeral.TheVariants.{Number};
 
 use crate::fault::{ItemFault, TextKind};

@@ -1,7 +1,8 @@
 // The entries of a matrix.
 ghost use Rattle.std.specs.Prelude.{◌≡◌, ◌≤◌, length, drop, slice_range, IfOk};
 ghost use Rattle.palp_input.specs.Pieces.{pieces_of};
-ghost use Rattle.palp_input.specs.Lines.{MatrixRead, matrix_read, matrix_read_of, matrix_token, entry_in_front, EntryMeans, EntryEndsAt, EntriesWithin, EntryWithin};
+ghost use Rattle.palp_input.specs.Lines.{MatrixRead, matrix_read, matrix_token};
+ghost use Rattle.palp_input.specs.LineSteps.{matrix_read_of, entry_in_front, EntryMeans, EntryEndsAt, EntriesWithin, EntryWithin};
 ghost use Rattle.palp_input.specs.Numerals.{numeral_of};
 
 use crate::fault::{ItemFault, TextKind};

@@ -1,6 +1,7 @@
 // Tokens, line ends and other bytes of a text.
 ghost use Rattle.std.specs.Prelude.{◌≡◌, ◌⊎◌, ℕ, ◌+◌, ◌-◌, ◌≤◌, ◌<◌, length, drop, ◌∷◌, [], true, false, slice_index, MatchOption, ⊤};
-ghost use Rattle.palp_input.specs.Pieces.{is_blank, is_token_byte, line_len, pieces_of, end_of, PieceWithin, without_line_ends, MarkBegins, MarkMeans, MarkWithin, place_of};
+ghost use Rattle.palp_input.specs.Pieces.{is_blank, is_token_byte, line_len, pieces_of};
+ghost use Rattle.palp_input.specs.PieceSteps.{end_of, PieceWithin, without_line_ends, MarkBegins, MarkMeans, MarkWithin, place_of};
 
 /// Where a token stands.
 #[derive(Clone, Copy, Debug, PartialEq, Eq)]

@@ -1,7 +1,8 @@
 // A reader of items.
 ghost use Rattle.std.specs.Prelude.{◌≡◌, ◌+◌, ◌≤◌, [], true, length, take, drop};
 ghost use Rattle.palp_input.specs.Grammar.{line_feeds, column_behind, most_bytes, text_fault};
-ghost use Rattle.palp_input.specs.Reading.{HeldMeans, LastMeans, NextMeans, TakeAllMeans, TakeIntoMeans};
+ghost use Rattle.palp_input.specs.ReaderSteps.{HeldMeans, LastMeans, TakeAllMeans, TakeIntoMeans};
+ghost use Rattle.palp_input.specs.Reading.{NextMeans};
 
 use crate::fault::{ItemFault, NextFault, TextFault};
 use crate::grammar::{Found, first_item};
@@ -30,7 +31,8 @@ pub struct Reader {
 
 impl Model for Reader {
     ghost use Rattle.std.specs.Prelude.{drop};
-    ghost use Rattle.palp_input.specs.Reading.{ReaderState, IsReader};
+    ghost use Rattle.palp_input.specs.Reading.{ReaderState};
+ghost use Rattle.palp_input.specs.ReaderSteps.{IsReader};
 
     ghost Value = { ReaderState };
 

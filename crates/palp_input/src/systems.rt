@@ -1,18 +1,8 @@
 // The weight systems of a line of numbers.
 ghost use Rattle.std.specs.Prelude.{◌≡◌, ◌≤◌, None, length, drop, map, IfOk, MatchOption};
 ghost use Rattle.lattice_core.specs.Weights.{weighted};
-ghost use Rattle.palp_input.specs.Systems.{
-  TakesUpTo,
-  is_zero_column,
-  other_length,
-  placed_of,
-  systems_read,
-  systems_read_of,
-  take_weights,
-  weight_at,
-  weighted_of,
-  zero_column,
-};
+ghost use Rattle.palp_input.specs.SystemSteps.{TakesUpTo, placed_of, systems_read_of};
+ghost use Rattle.palp_input.specs.Systems.{is_zero_column, other_length, systems_read, take_weights, weight_at, weighted_of, zero_column};
 ghost use Rattle.palp_input.specs.declared.lines.LineNumber.{LineNumber};
 
 use crate::lines::LineNumber;

@@ -1,4 +1,5 @@
 -- Counts of faults, which never fall and stay at the last value of a u64 once it is reached.
+-- This project's own.
 use Rattle.std.specs.Prelude.{ℕ, ◌+◌, ◌-◌, ◌^◌, ◌≤◌, min}
 
 -- the last value of a count

@@ -1,4 +1,4 @@
--- What holds over several calls of a source or a sink.
+-- What holds over several calls of a source or a sink. This project's own.
 use Rattle.std.specs.Prelude.{◌≡◌, ◌≢◌, ℕ, ◌<◌, ◌≤◌, ◌⊎◌, ◌↔◌, Bool, List, [], ◌++◌, length, Option, Some, None}
 use Rattle.palp_io.specs.Faults.{last_count, Rose}
 use Rattle.palp_io.specs.Source.{Passes, TakeMeans, bytes_of}

@@ -1,4 +1,5 @@
 -- What contracts see of a source or a sink in memory, and exactly what its calls do.
+-- This project's own.
 use Rattle.std.specs.Prelude.{◌≡◌, ℕ, ◌<◌, ◌≤◌, min, Bool, List, [], ◌++◌, length, Contains, ◌-◌, ◌⊎◌}
 use Rattle.palp_io.specs.Faults.{count_up}
 use Rattle.palp_io.specs.declared.taking.Took.{Took}

@@ -1,4 +1,4 @@
--- What a give does to the bytes of a sink and to its faults.
+-- What a give does to the bytes of a sink and to its faults. This project's own.
 use Rattle.std.specs.Prelude.{◌≡◌, ℕ, List, ◌++◌, Option}
 use Rattle.std.specs.Io.KnownBytes.{append_known}
 use Rattle.palp_io.specs.Faults.{Rose}

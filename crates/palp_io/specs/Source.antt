@@ -1,4 +1,4 @@
--- What a take does to the bytes of a source, to its end and to its faults.
+-- What a take does to the bytes of a source, to its end and to its faults. This project's own.
 use Rattle.std.specs.Prelude.{◌≡◌, ℕ, ◌≤◌, Bool, true, false, List, [], ◌++◌, take, Option, OnSome}
 use Rattle.std.specs.Io.KnownBytes.{prepend_known, IsAtEnd}
 use Rattle.palp_io.specs.Faults.{Rose}

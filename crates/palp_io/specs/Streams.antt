@@ -1,4 +1,5 @@
 -- What the adapters do to the bytes of a stream of std, where the stream tells them.
+-- This project's own.
 use Rattle.std.specs.Prelude.{◌≡◌, ℕ, List, Option}
 use Rattle.std.specs.Io.KnownBytes.{Appends, IsAtEnd}
 use Rattle.palp_io.specs.Faults.{count_up}

@@ -1,5 +1,6 @@
 use Rattle.std.proofs.Common.{◌≡◌, ◌≤◌, ◌-◌, length, drop}
-use Rattle.palp_input.specs.Pieces.{pieces_of, without_line_ends}
+use Rattle.palp_input.specs.Pieces.{pieces_of}
+use Rattle.palp_input.specs.PieceSteps.{without_line_ends}
 use Rattle.palp_input.proofs.pieces.next_mark.Given as goal
 
 abbrev pub invariant-loop-at : goal.invariant-loop-at

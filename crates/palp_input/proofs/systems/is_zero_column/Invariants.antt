@@ -1,5 +1,6 @@
 use Rattle.std.proofs.Common.{◌≡◌, map, drop}
-use Rattle.palp_input.specs.Systems.{is_zero_column, placed_of}
+use Rattle.palp_input.specs.Systems.{is_zero_column}
+use Rattle.palp_input.specs.SystemSteps.{placed_of}
 use Rattle.palp_input.proofs.systems.is_zero_column.Given as goal
 
 abbrev pub invariant-loop-system : goal.invariant-loop-system

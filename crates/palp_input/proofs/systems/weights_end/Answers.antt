@@ -1,5 +1,5 @@
 use Rattle.std.proofs.Common.{◌≡◌, ℕ, length, subst, arith}
-use Rattle.palp_input.specs.Systems.{TakesUpTo}
+use Rattle.palp_input.specs.SystemSteps.{TakesUpTo}
 use Rattle.palp_input.specs.declared.lines.LineNumber.{LineNumber}
 use Rattle.palp_input.proofs.WeightLines.{weight_more, weights_stop, weights_exceed, weights_all, weights_short}
 use Rattle.palp_input.proofs.systems.weights_end.Goals as goal

@@ -1,6 +1,7 @@
 use Rattle.std.proofs.Common.{◌≡◌, map, take}
 use Rattle.lattice_core.specs.Weights.{weighted}
-use Rattle.palp_input.specs.Systems.{weighted_of, placed_of}
+use Rattle.palp_input.specs.Systems.{weighted_of}
+use Rattle.palp_input.specs.SystemSteps.{placed_of}
 use Rattle.palp_input.proofs.systems.without_places.Given as goal
 
 abbrev pub invariant-loop-system : goal.invariant-loop-system

@@ -1,6 +1,7 @@
 use Rattle.std.proofs.Common.{◌+◌, Bool, cond, List, map, drop, get_or, Some, sym, ap, ◌∙◌}
 use Rattle.std.proofs.lemmas.List.{drop_more}
-use Rattle.palp_input.specs.Systems.{zero_column, placed_of}
+use Rattle.palp_input.specs.Systems.{zero_column}
+use Rattle.palp_input.specs.SystemSteps.{placed_of}
 use Rattle.palp_input.specs.declared.lines.LineNumber.{LineNumber}
 use Rattle.palp_input.proofs.systems.zero_column.Goals as goal
 

@@ -1,5 +1,6 @@
 use Rattle.std.proofs.Common.{◌≡◌, false, ap, subst, ◌∙◌, Option, Ok, Err, Some, None}
-use Rattle.palp_input.specs.Reading.{ReaderState, HeldMeans}
+use Rattle.palp_input.specs.Reading.{ReaderState}
+use Rattle.palp_input.specs.ReaderSteps.{HeldMeans}
 use Rattle.palp_input.specs.declared.item.Item.{Item}
 use Rattle.palp_input.proofs.NextAnswers.{held_most, held_answer, held_fault, last_answer}
 use Rattle.palp_input.proofs.reader.Reader.next_item.Goals as goal
