@@ -11,4 +11,5 @@ pub mod SettledEnds
 pub mod NextAnswers
 pub mod Readings
 pub mod ItemForms
+pub mod KeptNumbers
 pub mod FaultPlaces

@@ -1,9 +1,13 @@
 -- What holds of the reading of a text, and of the items that it has. This project's own.
-use Rattle.std.specs.Prelude.{◌≡◌, ◌≢◌, ℕ, ◌+◌, ◌-◌, ◌*◌, ◌<◌, ◌≤◌, ℤ, nat_abs, Bool, List, ◌++◌, length, take, drop, Option, Some, None, Result, Ok, Err}
+use Rattle.std.specs.Prelude.{◌≡◌, ◌≢◌, ℕ, ◌+◌, ◌-◌, ◌*◌, ◌<◌, ◌≤◌, ℤ, nat_abs, Bool, List, [], ◌∷◌, ◌++◌, map, length, take, drop, Option, Some, None, Result, Ok, Err}
 use Rattle.std.specs.List.{All}
 use Rattle.lattice_core.specs.Weights.{Weighted, AreWellFormed}
 use Rattle.palp_input.specs.Numerals.{bound}
-use Rattle.palp_input.specs.Grammar.{Listed, ListedWeights, ListedPoints, listed, next_of, NextWithin, Known, Beyond, Nothing, Given, Faulty, next_within, most_bytes, line_feeds, text_fault, TextRead, End, FaultEnd, TooLongEnd, no_more, with_item, read_behind, reading_behind}
+use Rattle.palp_input.specs.Systems.{PlacedSystem, Summed, systems_read}
+use Rattle.palp_input.specs.Grammar.{Listed, ListedWeights, ListedPoints, listed, weights_item, Nothing, Given, Faulty, next_of}
+use Rattle.palp_input.specs.Grammar.{NextWithin, Known, Beyond, next_within, most_bytes, line_feeds, text_fault}
+use Rattle.palp_input.specs.Grammar.{TextRead, End, FaultEnd, TooLongEnd, no_more, with_item, read_behind, reading_behind}
+use Rattle.palp_input.specs.declared.lines.LineNumber.{LineNumber}
 use Rattle.palp_input.specs.Reading.{ReaderState, NextMeans}
 use Rattle.palp_input.specs.declared.fault.ItemFault.{ItemFault}
 use Rattle.palp_input.specs.declared.fault.NextFault.{NextFault}
@@ -106,3 +110,23 @@ ItemsAreItems = (text : List ℕ) (item : Listed) (end : ℕ) → next_of text �
 -- an item has a byte, and so has its text
 abbrev pub ItemsHaveBytes : Type 0
 ItemsHaveBytes = (text : List ℕ) (item : Listed) (end : ℕ) → next_of text ≡ Given item end → (1 ≤ end) × (1 ≤ length text)
+
+-- the numbers that write systems: one system after another, its degree and then its weights
+abbrev pub numbers_of : List PlacedSystem → List LineNumber
+numbers_of [] = []
+numbers_of (system ∷ systems) = system.degree ∷ (system.weights ++ numbers_of systems)
+
+abbrev pub numbers_in : List Weighted → List ℕ
+numbers_in [] = []
+numbers_in (system ∷ systems) = system.degree ∷ (system.weights ++ numbers_in systems)
+
+-- wherever the numbers of a line are read into systems, the systems are written with exactly these
+-- numbers, each at its place
+abbrev pub SystemsKeepNumbers : Type 0
+SystemsKeepNumbers = (numbers : List LineNumber) (systems : List PlacedSystem) → systems_read (length numbers) numbers ≡ Summed systems
+    → numbers_of systems ≡ numbers
+
+-- and so are the systems of an item
+abbrev pub ItemsKeepNumbers : Type 0
+ItemsKeepNumbers = (end place : ℕ) (numbers : List LineNumber) (systems : List Weighted) → weights_item end numbers ≡ Given (ListedWeights systems) place
+    → numbers_in systems ≡ map (λ (n : LineNumber). n.value) numbers

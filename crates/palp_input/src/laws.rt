@@ -1,5 +1,5 @@
 // What holds of the reading of a text.
-ghost use Rattle.palp_input.specs.Laws.{HasAllItems, GoesOn, Ends, EndsFaulty, EndsTooLong, CallsAnswer, CallsRead, ItemsAreItems, ItemsHaveBytes};
+ghost use Rattle.palp_input.specs.Laws.{HasAllItems, GoesOn, Ends, EndsFaulty, EndsTooLong, CallsAnswer, CallsRead, ItemsAreItems, ItemsHaveBytes, SystemsKeepNumbers, ItemsKeepNumbers};
 
 /// What the reading of a text has after its first item is the reading of the bytes behind that
 /// item's end, with bytes and lines counted on. Where there is no further item the reading ends: at
@@ -27,4 +27,12 @@ pub fn calls_law()
 pub fn item_law()
     ensures means { ItemsAreItems }
     ensures bytes { ItemsHaveBytes }
+{}
+
+/// Reading the numbers of a weight line into systems loses no number and adds none: the systems'
+/// numbers, of each its degree and then its weights, one system after another, are the numbers of
+/// the line.
+pub fn systems_keep_numbers()
+    ensures placed { SystemsKeepNumbers }
+    ensures item { ItemsKeepNumbers }
 {}

@@ -19,5 +19,5 @@ mod tests;
 
 pub use fault::{NextFault, TextFault, TextKind};
 pub use item::{Item, Matrix};
-pub use laws::{calls_law, item_law, reading_law};
+pub use laws::{calls_law, item_law, reading_law, systems_keep_numbers};
 pub use reader::Reader;
