@@ -1,5 +1,6 @@
 -- What holds of the reading of a text, and of the items that it has. This project's own.
-use Rattle.std.specs.Prelude.{◌≡◌, ◌≢◌, ℕ, ◌+◌, ◌-◌, ◌*◌, ◌<◌, ◌≤◌, ℤ, nat_abs, Bool, List, [], ◌∷◌, ◌++◌, map, length, take, drop, Option, Some, None, Result, Ok, Err}
+use Rattle.std.specs.Prelude.{◌≡◌, ◌≢◌, ℕ, ◌+◌, ◌-◌, ◌*◌, ◌<◌, ◌≤◌, ℤ, nat_abs, Bool, List, [], ◌∷◌, ◌++◌}
+use Rattle.std.specs.Prelude.{map, length, take, drop, Option, Some, None, Result, Ok, Err}
 use Rattle.std.specs.List.{All}
 use Rattle.lattice_core.specs.Weights.{Weighted, AreWellFormed}
 use Rattle.palp_input.specs.Numerals.{bound}
@@ -128,5 +129,6 @@ SystemsKeepNumbers = (numbers : List LineNumber) (systems : List PlacedSystem) �
 
 -- and so are the systems of an item
 abbrev pub ItemsKeepNumbers : Type 0
-ItemsKeepNumbers = (end place : ℕ) (numbers : List LineNumber) (systems : List Weighted) → weights_item end numbers ≡ Given (ListedWeights systems) place
+ItemsKeepNumbers = (end place : ℕ) (numbers : List LineNumber) (systems : List Weighted)
+    → weights_item end numbers ≡ Given (ListedWeights systems) place
     → numbers_in systems ≡ map (λ (n : LineNumber). n.value) numbers

@@ -2,12 +2,14 @@
 use lattice_core::NoMemory;
 use thiserror::Error;
 
-/// What is wrong at a place of a text.
+/// What is wrong at a place of a text. Where the place is a token or a number it is told by the
+/// line and column of its first byte.
 #[derive(Clone, Copy, Debug, PartialEq, Eq)]
 pub enum TextKind {
-    /// The first token of an item, or a token of a matrix, isn't a number.
+    /// The first token of an item, or a token of a matrix, isn't a number. The place is that token.
     BadNumber,
-    /// A number is 10^18 or more in absolute value, or is negative on an item's first line.
+    /// A number is 10^18 or more in absolute value, or is negative on an item's first line. The place
+    /// is that number, with its `-` where it has one.
     NumberRange,
     /// The text ends before the matrix is complete. The place is the header's first token.
     MatrixShort,
@@ -19,9 +21,10 @@ pub enum TextKind {
     ZeroColumn,
     /// The line has one number, or a weight line begins with 0. The place is the first token.
     NoWeights,
-    /// The ignored text of an item's first line begins with `/Z`.
+    /// The ignored text of an item's first line begins with `/Z`. The place is that `/`.
     Quotient,
-    /// A byte that no text has stands outside of ignored text.
+    /// A byte that is no blank, no line end and not from 33 to 126 stands outside of ignored text. The
+    /// place is that byte.
     BadByte,
 }
 

@@ -1,4 +1,5 @@
--- The word in the place of a number, from a place in the list of words on. This project's own.
+-- The word in the place of a number, from a place in the list of words on, which only the code and its
+-- proofs use: what the words mean is in Words. This project's own.
 use Rattle.std.specs.Prelude.{ℕ, List, [], ◌∷◌, drop, Option, Some, if◌then◌else◌}
 use Rattle.palp_words.specs.Numbers.{number_fault, number_of}
 use Rattle.palp_words.specs.Words.{is_size_word}
