@@ -32,7 +32,7 @@ pub struct Reader {
 impl Model for Reader {
     ghost use Rattle.std.specs.Prelude.{drop};
     ghost use Rattle.palp_input.specs.Reading.{ReaderState};
-ghost use Rattle.palp_input.specs.ReaderSteps.{IsReader};
+    ghost use Rattle.palp_input.specs.ReaderSteps.{IsReader};
 
     ghost Value = { ReaderState };
 

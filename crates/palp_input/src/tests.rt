@@ -1,6 +1,7 @@
 use super::*;
 use crate::TextKind::{
-    BadByte, BadNumber, Lengths, MatrixShort, NoWeights, NumberRange, Quotient, WeightSum, ZeroColumn,
+    BadByte, BadNumber, Lengths, MatrixShort, NoWeights, NumberRange, Quotient, WeightSum,
+    ZeroColumn,
 };
 use lattice_core::WeightSystem;
 use palp_io::MemSource;
