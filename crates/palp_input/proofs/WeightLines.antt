@@ -22,18 +22,17 @@ weight_at-past zero (number ∷ weights) h = absurd (omega arith)
 weight_at-past (suc place) (number ∷ weights) h = weight_at-past place weights (omega arith)
 
 -- one system more without its places
-pub placed_more : (items now : List WeightSystem) (systems : List KeptSystem) (i : ℕ) (system : KeptSystem) (item : WeightSystem)
-    → map weighted items ≡ map weighted_of (map placed_of (take i systems)) → i < length systems → system ≡ get_or systems i system
-    → now ≡ items ++ item ∷ [] → weighted item ≡ weighted_of (placed_of system)
+pub placed_more : (items now : List WeightSystem) (systems : List KeptSystem) (i : ℕ) (d : KeptSystem) (item : WeightSystem)
+    → map weighted items ≡ map weighted_of (map placed_of (take i systems)) → i < length systems
+    → now ≡ items ++ item ∷ [] → weighted item ≡ weighted_of (placed_of (get_or systems i d))
     → map weighted now ≡ map weighted_of (map placed_of (take (i + 1) systems))
-placed_more items now systems i system item h lt is n e =
+placed_more items now systems i d item h lt n e =
     ap (map weighted) n ∙ map_push weighted items item
     ∙ ap (λ (ws : List Weighted). ws ++ weighted item ∷ []) h
     ∙ ap (λ (w : Weighted). map weighted_of (map placed_of (take i systems)) ++ w ∷ []) e
-    ∙ sym (map_push weighted_of (map placed_of (take i systems)) (placed_of system))
-    ∙ ap (map weighted_of) (sym (map_push placed_of (take i systems) system))
-    ∙ ap (λ (s : KeptSystem). map weighted_of (map placed_of (take i systems ++ s ∷ []))) is
-    ∙ ap (λ (ss : List KeptSystem). map weighted_of (map placed_of ss)) (sym (take_more systems i system lt))
+    ∙ sym (map_push weighted_of (map placed_of (take i systems)) (placed_of (get_or systems i d)))
+    ∙ ap (map weighted_of) (sym (map_push placed_of (take i systems) (get_or systems i d)))
+    ∙ ap (λ (ss : List KeptSystem). map weighted_of (map placed_of ss)) (sym (take_more systems i d lt))
 
 -- weights in front of those that are taken behind them
 abbrev pub taken_behind : List LineNumber → Option Taken → Option Taken

@@ -9,7 +9,7 @@ use Rattle.palp_input.specs.Systems.{take_weights, PlacedSystem, SystemsRead, Su
 
 -- what the code keeps, as contracts see it
 abbrev pub placed_of : KeptSystem → PlacedSystem
-placed_of system = record { degree = system.degree; weights = system.weights.items }
+placed_of system = record { degree = system.degree; weights = system.weights.now }
 
 abbrev pub systems_read_of : Systems → SystemsRead
 systems_read_of (KeptSummed systems) = Summed (map placed_of systems.items)

@@ -165,7 +165,7 @@ fn summed_item(alloc: Global, systems: &[PlacedSystem], end: usize) -> Result<Fo
             end,
         }));
     }
-    if let Some(at) = zero_column(&first.weights, systems) {
+    if let Some(at) = zero_column(first.weights, systems) {
         return Ok(Found::Faulty(ItemFault {
             kind: TextKind::ZeroColumn,
             at,

@@ -10,25 +10,25 @@ use lattice_core::{NoMemory, WeightSystem};
 use std::alloc::Global;
 
 /// A system with the places of its numbers.
-#[derive(Debug, Drop, PartialEq, Eq)]
-pub struct PlacedSystem {
+#[derive(Clone, Copy)]
+pub struct PlacedSystem<'a> {
     /// The degree.
     pub degree: LineNumber,
-    /// The weights.
-    pub weights: Vec<LineNumber>,
+    /// The weights, which stand in the line.
+    pub weights: &'a [LineNumber],
 }
 
 /// The systems of a line.
-#[derive(Debug, Drop, PartialEq, Eq)]
-pub enum Systems {
+#[derive(Drop)]
+pub enum Systems<'a> {
     /// All of them.
-    Summed(Vec<PlacedSystem>),
+    Summed(Vec<PlacedSystem<'a>>),
     /// The place of the degree of the first one whose weights don't sum to it.
     WrongSum(usize),
 }
 
 /// The systems of the numbers, one after another.
-pub fn read_systems(alloc: Global, numbers: &[LineNumber]) -> Result<Systems, NoMemory>
+pub fn read_systems(alloc: Global, numbers: &[LineNumber]) -> Result<Systems<'_>, NoMemory>
     ensures { IfOk result (λ systems. systems_read_of systems ≡ systems_read (length numbers.now) numbers.now) }
 {
     let mut systems = Vec::new(alloc);
@@ -38,7 +38,7 @@ pub fn read_systems(alloc: Global, numbers: &[LineNumber]) -> Result<Systems, No
         let Some(end) = weights_end(numbers, place + 1, degree.value) else {
             return Ok(Systems::WrongSum(degree.at));
         };
-        let weights = Vec::from_slice(alloc, &numbers[place + 1..end])?;
+        let weights = &numbers[place + 1..end];
         systems.push(PlacedSystem { degree, weights })?;
         place = end;
     }
@@ -92,7 +92,7 @@ fn is_zero_column(systems: &[PlacedSystem], place: usize) -> bool
     ensures { result ≡ is_zero_column place (map placed_of systems.now) }
 {
     for system in systems {
-        if weight_at(&system.weights, place) != 0 {
+        if weight_at(system.weights, place) != 0 {
             return false;
         }
     }
@@ -117,9 +117,9 @@ pub fn without_places(
 ) -> Result<Vec<WeightSystem>, NoMemory>
     ensures { IfOk result (λ items. map weighted items.items ≡ map weighted_of (map placed_of systems.now)) }
 {
-    let mut items = Vec::new(alloc);
+    let mut items = Vec::with_capacity(alloc, systems.len())?;
     for system in systems {
-        let weights = values_of(alloc, &system.weights)?;
+        let weights = values_of(alloc, system.weights)?;
         items.push(WeightSystem {
             degree: system.degree.value,
             weights,
@@ -132,7 +132,7 @@ pub fn without_places(
 fn values_of(alloc: Global, numbers: &[LineNumber]) -> Result<Vec<u64>, NoMemory>
     ensures { IfOk result (λ values. values.items ≡ map (λ (n : LineNumber). n.value) numbers.now) }
 {
-    let mut values = Vec::new(alloc);
+    let mut values = Vec::with_capacity(alloc, numbers.len())?;
     for number in numbers {
         values.push(number.value)?;
     }

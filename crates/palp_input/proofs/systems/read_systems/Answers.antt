@@ -1,4 +1,4 @@
-use Rattle.std.proofs.Common.{List, get_or, ap}
+use Rattle.std.proofs.Common.{refl}
 use Rattle.palp_input.specs.declared.lines.LineNumber.{LineNumber}
 use Rattle.palp_input.proofs.WeightLines.{systems_wrong, systems_more, systems_end}
 use Rattle.palp_input.proofs.systems.read_systems.Goals as goal
@@ -16,7 +16,7 @@ unfolding none
 loop-place-preserved c =
     systems_more c.args.numbers.now c.loop-place.place c.loop-place.systems.items none c.loop-place.invariant c.loop-place-test.true
     c.in-Some.end _ c.push.new.self.items c.in-Some.ensures
-    (ap (λ (ws : List LineNumber). record { degree = get_or c.args.numbers.now c.loop-place.place none; weights = ws }) c.in_ok-weights.ensures.items)
+    refl
     c.in_ok-push.ensures.items
 
 pub returns : goal.returns
