@@ -33,7 +33,7 @@ KernelSteps = (m : ℕ) (vectors pivots : List (List ℤ)) (before : List Member
     → All (λ k. dot k.vector v ≡ pos 0) before → dot p.vector v ≢ pos 0 → All (λ k. p.own ≤ k.own) after → AllZip (IsReduced p v) after next
     → IsKernel m (vectors ++ (v ∷ [])) (before ++ next) × ArePivots m (vectors ++ (v ∷ [])) (pivots ++ (v ∷ [])) (before ++ next)
 
--- the vector g is an integer multiple of f, up to an integer that isn't 0
+-- the vector g is a rational multiple of f: q g = p f with integers p and q, and q isn't 0. This project's own.
 pub record IsVectorMultiple (g f : List ℤ) : Type 0 where
   pub left : ℤ
   pub right : ℤ

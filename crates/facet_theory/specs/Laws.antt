@@ -7,7 +7,7 @@ use Rattle.lattice_theory.specs.Hull.{InHull, IsVertex}
 use Rattle.lattice_theory.specs.Facet.{IsFlat, IsFacet, AreFacets}
 use Rattle.facet_theory.specs.Sums.{IsSumOfFacets}
 
--- what the laws suppose: at least one coordinate, and points with n coordinates that aren't flat
+-- what the laws suppose: at least one coordinate, and points with n coordinates that aren't flat. This project's own.
 pub record AreSolid (n : ℕ) (points : List (List ℤ)) : Type 0 where
   pub coordinates : 0 < n
   pub dimension : HaveDimension n points
@@ -23,7 +23,7 @@ abbrev pub HullByFacets : Type 0
 HullByFacets = (n : ℕ) (points : List (List ℤ)) → AreSolid n points → (x : List ℤ) → length x ≡ n
     → InHull n points x ↔ ((f : Affine) → IsFacet n points f → pos 0 ≤ℤ value f x)
 
--- a nonnegative function that vanishes with a facet is a multiple of it, and two facets of which one vanishes with the other are equal
+-- two facets are equal where the second is 0 at each point of the list at which the first is
 abbrev pub FacetsDiffer : Type 0
 FacetsDiffer = (n : ℕ) (points : List (List ℤ)) → AreSolid n points
     → (f g : Affine) → IsFacet n points f → IsFacet n points g → VanishesWith points f g → f ≡ g

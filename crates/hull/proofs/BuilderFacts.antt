@@ -9,7 +9,7 @@ use Rattle.lattice_theory.specs.Order.{Ascends, FunctionLess}
 use Rattle.lattice_theory.specs.Facet.{IsFlat, AreFacets}
 use Rattle.lattice_theory.proofs.Orders.{function_irreflexive}
 use Rattle.lattice_core.specs.Dimensions.{dimension_of}
-use Rattle.hull.specs.Faults.{IsSized}
+use Rattle.lattice_core.specs.Limits.{IsSized}
 use Rattle.hull.specs.Built.{HasFacets, IsBuilt}
 
 -- functions in order are each there once

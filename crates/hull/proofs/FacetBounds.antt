@@ -1,16 +1,17 @@
 -- How large facets are: each is fixed by some of the points, whose weights are at most their size.
-use Rattle.std.proofs.Common.{◌≡◌, ◌≢◌, ℕ, zero, suc, ◌*◌, ◌^◌, ◌<◌, ◌≤◌, List, [], ◌∷◌, length, ℤ, pos, negsuc, ◌+ℤ◌, ◌*ℤ◌, nat_abs, ⊎_elim, refl, ap, subst, All, Contains, arith}
+use Rattle.std.proofs.Common.{◌≡◌, ℕ, zero, suc, ◌*◌, ◌^◌, ◌<◌, ◌≤◌, List, [], ◌∷◌, length, ℤ, pos, negsuc, ◌+ℤ◌, ◌*ℤ◌, nat_abs, ⊎_elim, refl, ap, subst, All, Contains, arith}
 use Rattle.std.specs.Prelude.{◌-◌}
 use Rattle.std.proofs.lemmas.Int.{ints}
 use Rattle.std.proofs.lemmas.Bool.{cases_lt}
 use Rattle.std.proofs.lemmas.List.Elements.{All-contains, All-weaker, All-contains_itself}
-use Rattle.lattice_theory.specs.Vector.{entry, dot, HaveDimension}
+use Rattle.lattice_theory.specs.Vector.{dot, HaveDimension}
 use Rattle.lattice_theory.specs.Affine.{Affine, value, Vanishes, IsMultiple}
 use Rattle.lattice_theory.specs.Size.{size, weight}
 use Rattle.lattice_theory.specs.Facet.{IsFlat, IsFacet, AreFacets}
 use Rattle.lattice_theory.proofs.Integers.{products_out, linear}
-use Rattle.lattice_theory.proofs.Members.{empty, more, each_from_all, all_from_each}
+use Rattle.lattice_theory.proofs.Members.{empty, all_from_each}
 use Rattle.elimination.proofs.Divisibility.{primitive_nonzero}
+use Rattle.elimination.proofs.Vectors.{nonzero_entry}
 use Rattle.facet_theory.specs.Laws.{AreSolid}
 use Rattle.facet_theory.proofs.FacetPoints.{facet_by_points_lem}
 use Rattle.normal_bounds.specs.Bounds.{IsFixedBy}
@@ -31,13 +32,6 @@ zero_weight [] p h = refl
 zero_weight (c ∷ x) [] h = refl
 zero_weight (c ∷ x) (b ∷ p) h = zero_more c b (dot x p) (omega arith) (zero_weight x p (omega arith))
 
--- a vector that isn't 0 has an entry that isn't
-some_entry : (x : List ℤ) → (All (λ a. a ≡ pos 0) x → ⊥) → (k : ℕ) × (entry x k ≢ pos 0)
-some_entry [] n = absurd (n (all_from_each empty))
-some_entry (pos zero ∷ x) n = let (k, e) = some_entry x (λ z. n (all_from_each (more refl (each_from_all (λ a. a ≡ pos 0) x z)))) in (suc k, e)
-some_entry (pos (suc a) ∷ x) n = (0, λ e. absurd (let k = ap nat_abs e in omega (arith, ints)))
-some_entry (negsuc a ∷ x) n = (0, λ e. absurd (let k = ap nat_abs e in omega (arith, ints)))
-
 -- points with a facet that aren't flat have a positive size: without weight a function with the facet's normal would vanish on them
 size_positive : (n : ℕ) (points : List (List ℤ)) → AreSolid n points → (f : Affine) → IsFacet n points f → 1 ≤ size n points
 size_positive n points s f h = ⊎_elim (λ (l : 0 < size n points). omega arith) (λ (l : size n points ≤ 0). absurd (s.solid (flat l))) (cases_lt 0 (size n points))
@@ -49,7 +43,7 @@ size_positive n points s f h = ⊎_elim (λ (l : 0 < size n points). omega arith
     flat l = record {
       function = record { normal = f.normal; constant = pos 0 };
       dimension = h.dimension;
-      nonconstant = some_entry f.normal (primitive_nonzero f.normal h.primitive);
+      nonconstant = (let (k, l, e) = nonzero_entry f.normal (primitive_nonzero f.normal h.primitive) in (k, e.nonzero));
       vanishes = All-weaker (λ p. weight p ≤ size n points) (λ p. value (record { normal = f.normal; constant = pos 0 }) p ≡ pos 0) (λ p w. at p l w) points (point_weight_lem n points s.dimension);
     }
 

@@ -15,8 +15,7 @@ use Rattle.elimination.proofs.Divisibility.{primitive_same}
 use Rattle.hull.specs.Differences.{difference}
 use Rattle.std.specs.Prelude.{nat_abs, ◌*◌, ◌^◌}
 use Rattle.lattice_theory.specs.Size.{weight}
-use Rattle.lattice_core.specs.Limits.{size_limit_of}
-use Rattle.hull.specs.Faults.{IsSized}
+use Rattle.lattice_core.specs.Limits.{size_limit_of, IsSized}
 use Rattle.hull.specs.Kernels.{IsPrimitiveKernel, IsSmallKernel}
 use Rattle.hull.proofs.Kernels.{member_entries}
 use Rattle.hull.specs.Search.{IsFrom, IsKernelOfPoints, IsReached, AddsFacets, IsSupporting, AddsEach}

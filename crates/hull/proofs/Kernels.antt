@@ -15,7 +15,7 @@ use Rattle.elimination.proofs.Vectors.{unit, dot-unit}
 use Rattle.normal_bounds.proofs.Products.{members_fit_lem, step_products_fit_lem}
 use Rattle.lattice_core.specs.Limits.{size_limit_of}
 use Rattle.hull.specs.Kernels.{IsPrimitiveKernel, IsSmallKernel, CanReduce, IsReducedBy, IsStepped}
-use Rattle.lattice_core.proofs.SizeLimits.{limit_safe, limit_positive}
+use Rattle.lattice_core.proofs.SizeLimits.{limit_positive}
 
 -- the pivots are as small as the vectors
 pivots_small : (n : ℕ) (ks : List Member) (h : IsSmallKernel n ks) → All (λ v. weight v ≤ 2 * size_limit_of n) h.is_kernel.pivots
@@ -31,15 +31,15 @@ member_length n vs ks h k c = All-contains (λ l. length l.vector ≡ n) ks k h.
 
 -- its entries and its values
 pub member_entries : (n : ℕ) (ks : List Member) → 1 ≤ n → n ≤ 6 → IsSmallKernel n ks → (k : Member) → Contains ks k → All (λ a. nat_abs a < 2 ^ 63) k.vector
-member_entries n ks a b h k c = (members_fit_lem n (size_limit_of n) h.vectors h.is_kernel.pivots ks (limit_positive n a b) (limit_safe n) h.is_kernel.are_pivots (pivots_small n ks h) k c (member_primitive n h.vectors ks h.is_kernel k c)).0
+member_entries n ks a b h k c = (members_fit_lem n (size_limit_of n) h.vectors h.is_kernel.pivots ks (limit_positive n a b) (omega arith) h.is_kernel.are_pivots (pivots_small n ks h) k c (member_primitive n h.vectors ks h.is_kernel k c)).0
 
 -- the values at a difference
 pub member_value : (n : ℕ) (ks : List Member) → 1 ≤ n → n ≤ 6 → IsSmallKernel n ks → (k : Member) → Contains ks k → (v : List ℤ) → weight v ≤ 2 * size_limit_of n → nat_abs (dot k.vector v) < 2 ^ 76
-member_value n ks a b h k c v w = (members_fit_lem n (size_limit_of n) h.vectors h.is_kernel.pivots ks (limit_positive n a b) (limit_safe n) h.is_kernel.are_pivots (pivots_small n ks h) k c (member_primitive n h.vectors ks h.is_kernel k c)).1 v w
+member_value n ks a b h k c v w = (members_fit_lem n (size_limit_of n) h.vectors h.is_kernel.pivots ks (limit_positive n a b) (omega arith) h.is_kernel.are_pivots (pivots_small n ks h) k c (member_primitive n h.vectors ks h.is_kernel k c)).1 v w
 
 -- the products of a step
 member_products : (n : ℕ) (ks : List Member) → 1 ≤ n → n ≤ 6 → IsSmallKernel n ks → 2 ≤ length ks → (k l : Member) → Contains ks k → Contains ks l → (v : List ℤ) → weight v ≤ 2 * size_limit_of n → All (λ a. nat_abs (dot k.vector v *ℤ a) < 2 ^ 126) l.vector
-member_products n ks a b h t k l c d v w = step_products_fit_lem n (size_limit_of n) h.vectors h.is_kernel.pivots ks (limit_positive n a b) (limit_safe n) h.is_kernel.are_pivots (pivots_small n ks h) t k l c d (member_primitive n h.vectors ks h.is_kernel k c) (member_primitive n h.vectors ks h.is_kernel l d) v w
+member_products n ks a b h t k l c d v w = step_products_fit_lem n (size_limit_of n) h.vectors h.is_kernel.pivots ks (limit_positive n a b) (omega arith) h.is_kernel.are_pivots (pivots_small n ks h) t k l c d (member_primitive n h.vectors ks h.is_kernel k c) (member_primitive n h.vectors ks h.is_kernel l d) v w
 
 -- a member behind another has the entry 0 at its own place in it
 apart_behind : (before : List Member) (p : Member) (after : List Member) → AreApart (before ++ (p ∷ after)) → (k : Member) → Contains after k → entry p.vector k.own ≡ pos 0

@@ -6,8 +6,7 @@ use Rattle.std.proofs.lemmas.Int.{ints, fits_signed_from_abs}
 use Rattle.std.proofs.lemmas.List.{take_all, get_or_default}
 use Rattle.std.proofs.lemmas.List.Elements.{All-weaker}
 use Rattle.normal_bounds.proofs.Sizes.{point_weight_lem}
-use Rattle.lattice_core.specs.Limits.{size_limit_of}
-use Rattle.hull.specs.Faults.{IsSized}
+use Rattle.lattice_core.specs.Limits.{size_limit_of, IsSized}
 use Rattle.hull.specs.Kernels.{IsPrimitiveKernel, IsSmallKernel}
 use Rattle.lattice_core.proofs.SizeLimits.{limit_bound}
 use Rattle.hull.proofs.Pivots.{take_more}

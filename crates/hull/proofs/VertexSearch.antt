@@ -8,15 +8,15 @@ use Rattle.lattice_theory.specs.Affine.{Affine, value, IsNonnegative}
 use Rattle.lattice_theory.specs.Size.{size}
 use Rattle.lattice_theory.specs.Hull.{InHull, IsVertex, AreVertices}
 use Rattle.lattice_theory.specs.Order.{Ascends, LexLess}
-use Rattle.lattice_theory.specs.Facet.{IsFlat, AreFacets}
+use Rattle.lattice_theory.specs.Facet.{IsFlat, AreFacetsInAnyOrder}
 use Rattle.lattice_theory.proofs.Integers.{linear}
 use Rattle.lattice_theory.proofs.Members.{Each, empty, more, each_from_all, all_from_each}
 use Rattle.facet_theory.specs.Laws.{AreSolid}
 use Rattle.facet_theory.proofs.Vertices.{vertices_by_facets_lem}
 use Rattle.normal_bounds.proofs.Numbers.{entries_fit_lem}
 use Rattle.hull.specs.Tight.{LiesWith, LiesAlone}
-use Rattle.hull.specs.Faults.{IsSized}
-use Rattle.lattice_core.proofs.SizeLimits.{limit_safe, limit_bound}
+use Rattle.lattice_core.specs.Limits.{IsSized}
+use Rattle.lattice_core.proofs.SizeLimits.{limit_bound}
 use Rattle.hull.proofs.Pivots.{take_more}
 use Rattle.hull.proofs.FacetBounds.{facets_bounded_lem, solid_at, no_facet}
 
@@ -32,8 +32,8 @@ contains_more xs i x y h e = subst (λ zs. Contains zs y ↔ (Contains (take i x
     back (inr i') = subst (Contains (take i xs ++ (x ∷ []))) i' (Contains-push (take i xs) x)
 
 -- the facets' dimension
-pub facets_dimension : (n : ℕ) (points : List (List ℤ)) (facets : List Affine) → AreFacets n points facets → All (λ f. length f.normal ≡ n) facets
-facets_dimension n points facets h = All-weaker (Contains facets) (λ f. length f.normal ≡ n) (λ f c. ((h.members f).0 c).dimension) facets (All-contains_itself facets)
+pub facets_dimension : (n : ℕ) (points : List (List ℤ)) (facets : List Affine) → AreFacetsInAnyOrder n points facets → All (λ f. length f.normal ≡ n) facets
+facets_dimension n points facets h = All-weaker (Contains facets) (λ f. length f.normal ≡ n) (λ f c. ((h f).0 c).dimension) facets (All-contains_itself facets)
 
 -- two vectors without coordinates are the same
 no_coordinates : (x y : List ℤ) → length x ≡ 0 → length y ≡ 0 → x ≡ y
@@ -66,31 +66,31 @@ product_small : (c p m : ℕ) → c ≤ p * m → p < 2 ^ 63 → m ≤ 2 ^ 30 �
 product_small c p m h k l = omega (arith, mul-le-mul_right {m = p} {n = 2 ^ 63} m (omega arith))
 
 -- the facets' constants are small
-pub facets_constants : (n : ℕ) (points : List (List ℤ)) (facets : List Affine) → HaveDimension n points → (IsFlat n points → ⊥) → IsSized n points → AreFacets n points facets → All (λ f. nat_abs f.constant ≤ 2 ^ 100) facets
-facets_constants zero points facets d s k h = All-weaker (Contains facets) (λ f. nat_abs f.constant ≤ 2 ^ 100) (λ f c. absurd (no_facet f points ((h.members f).0 c))) facets (All-contains_itself facets)
+pub facets_constants : (n : ℕ) (points : List (List ℤ)) (facets : List Affine) → HaveDimension n points → (IsFlat n points → ⊥) → IsSized n points → AreFacetsInAnyOrder n points facets → All (λ f. nat_abs f.constant ≤ 2 ^ 100) facets
+facets_constants zero points facets d s k h = All-weaker (Contains facets) (λ f. nat_abs f.constant ≤ 2 ^ 100) (λ f c. absurd (no_facet f points ((h f).0 c))) facets (All-contains_itself facets)
 facets_constants (suc k) points facets d s t h = All-weaker (Contains facets) (λ f. nat_abs f.constant ≤ 2 ^ 100) small facets (All-contains_itself facets)
   where
     power : (2 * size (suc k) points) ^ (suc k - 1) < 2 ^ 63
-    power = entries_fit_lem (suc k) (suc k - 1) (size (suc k) points) (omega arith) (let b = limit_safe (suc k) in omega arith)
+    power = entries_fit_lem (suc k) (suc k - 1) (size (suc k) points) (omega arith) (omega arith)
 
     small : (f : Affine) → Contains facets f → nat_abs f.constant ≤ 2 ^ 100
-    small f c = product_small (nat_abs f.constant) ((2 * size (suc k) points) ^ (suc k - 1)) (size (suc k) points) (facets_bounded_lem (suc k) points (solid_at k points d s) f ((h.members f).0 c)).constant power (let b = limit_bound (suc k) in omega arith)
+    small f c = product_small (nat_abs f.constant) ((2 * size (suc k) points) ^ (suc k - 1)) (size (suc k) points) (facets_bounded_lem (suc k) points (solid_at k points d s) f ((h f).0 c)).constant power (let b = limit_bound (suc k) in omega arith)
 
 -- a point of the list is a vertex exactly where no other lies with it, by the law on vertices
-alone_by_law : (n : ℕ) (points : List (List ℤ)) (facets : List Affine) (v : List ℤ) → AreSolid n points → AreFacets n points facets → Contains points v → LiesAlone points facets v ↔ IsVertex n points v
+alone_by_law : (n : ℕ) (points : List (List ℤ)) (facets : List Affine) (v : List ℤ) → AreSolid n points → AreFacetsInAnyOrder n points facets → Contains points v → LiesAlone points facets v ↔ IsVertex n points v
 alone_by_law n points facets v s h c = (there, back)
   where
     there : LiesAlone points facets v → IsVertex n points v
-    there a = (vertices_by_facets_lem n points s v c).1 (λ p d t. All-contains (λ p. LiesWith facets v p → p ≡ v) points p a d (All-weaker (Contains facets) (λ f. value f v ≡ pos 0 → value f p ≡ pos 0) (λ f k. t f ((h.members f).0 k)) facets (All-contains_itself facets)))
+    there a = (vertices_by_facets_lem n points s v c).1 (λ p d t. All-contains (λ p. LiesWith facets v p → p ≡ v) points p a d (All-weaker (Contains facets) (λ f. value f v ≡ pos 0 → value f p ≡ pos 0) (λ f k. t f ((h f).0 k)) facets (All-contains_itself facets)))
 
     back : IsVertex n points v → LiesAlone points facets v
     back k = All-weaker (Contains points) (λ p. LiesWith facets v p → p ≡ v) alone points (All-contains_itself points)
       where
         alone : (p : List ℤ) → Contains points p → LiesWith facets v p → p ≡ v
-        alone p d t = (vertices_by_facets_lem n points s v c).0 k p d (λ f i z. All-contains (λ f. value f v ≡ pos 0 → value f p ≡ pos 0) facets f t ((h.members f).1 i) z)
+        alone p d t = (vertices_by_facets_lem n points s v c).0 k p d (λ f i z. All-contains (λ f. value f v ≡ pos 0 → value f p ≡ pos 0) facets f t ((h f).1 i) z)
 
 -- and also without coordinates
-pub vertex_alone : (n : ℕ) (points : List (List ℤ)) (facets : List Affine) (v : List ℤ) → HaveDimension n points → (IsFlat n points → ⊥) → AreFacets n points facets → Contains points v → LiesAlone points facets v ↔ IsVertex n points v
+pub vertex_alone : (n : ℕ) (points : List (List ℤ)) (facets : List Affine) (v : List ℤ) → HaveDimension n points → (IsFlat n points → ⊥) → AreFacetsInAnyOrder n points facets → Contains points v → LiesAlone points facets v ↔ IsVertex n points v
 vertex_alone (suc k) points facets v d s h c = alone_by_law (suc k) points facets v (solid_at k points d s) h c
 vertex_alone zero points facets v d s h c = (λ a. vertex_without points v d c, λ x. All-weaker (λ p. length p ≡ 0) (λ p. LiesWith facets v p → p ≡ v) (λ p e t. no_coordinates p v e (All-contains (λ p. length p ≡ 0) points v d c)) points d)
 

@@ -1,10 +1,10 @@
 -- What the hull's calls are refused for, and in which order. This project's own.
-use Rattle.std.specs.Prelude.{◌≡◌, ℕ, ◌<◌, ◌≤◌, List, length, ℤ}
+use Rattle.std.specs.Prelude.{◌≡◌, ℕ, ◌<◌, List, length, ℤ}
 use Rattle.lattice_theory.specs.Affine.{Affine}
 use Rattle.lattice_theory.specs.Size.{size}
 use Rattle.lattice_theory.specs.Hull.{AreVertices}
 use Rattle.lattice_theory.specs.Facet.{IsFlat, IsFlatFunction, AreFacets}
-use Rattle.lattice_core.specs.Limits.{size_limit_of}
+use Rattle.lattice_core.specs.Limits.{size_limit_of, IsSized}
 use Rattle.lattice_core.specs.declared.faults.Fault.{Fault}
 use Rattle.lattice_core.specs.declared.faults.Fault.TheVariants as faults
 use Rattle.lattice_core.specs.declared.faults.Refusal.{Refusal}
@@ -18,10 +18,6 @@ facet_limit = 128
 
 abbrev pub vertex_limit : ℕ
 vertex_limit = 128
-
--- the size of the points is within the limit of their dimension
-abbrev pub IsSized : ℕ → List (List ℤ) → Type 0
-IsSized n points = size n points ≤ size_limit_of n
 
 -- the points have more than the most facets, as many as are told
 pub record HasManyFacets (n : ℕ) (points : List (List ℤ)) (told : ℕ) : Type 0 where
@@ -44,7 +40,7 @@ IsSizeLimit n points other told = ⊥
 
 -- the limits on the facets of points: first the size, then the number of facets
 abbrev pub IsFacetsLimit : ℕ → List (List ℤ) → LimitName → ℕ → Type 0
-IsFacetsLimit n points limits.Size told = (told ≡ size n points) × (size_limit_of n < size n points)
+IsFacetsLimit n points limits.Size told = IsSizeLimit n points limits.Size told
 IsFacetsLimit n points limits.Facets told = IsSized n points × (IsFlat n points → ⊥) × HasManyFacets n points told
 IsFacetsLimit n points other told = ⊥
 

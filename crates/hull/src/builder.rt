@@ -4,7 +4,8 @@ ghost use Rattle.std.specs.Prelude.{◌≡◌, ◌+◌, ◌<◌, ◌≤◌, List
 ghost use Rattle.lattice_theory.specs.Vector.{HaveDimension};
 ghost use Rattle.lattice_theory.specs.Facet.{IsFlat};
 ghost use Rattle.lattice_core.specs.Dimensions.{dimension_of};
-ghost use Rattle.hull.specs.Faults.{IsSized, IsStartFault, IsInsertFault};
+ghost use Rattle.lattice_core.specs.Limits.{IsSized};
+ghost use Rattle.hull.specs.Faults.{IsStartFault, IsInsertFault};
 ghost use Rattle.hull.specs.Built.{HasFacets};
 
 use crate::facets::{all_facets, sized, solid};

@@ -4,10 +4,9 @@ ghost use Rattle.std.specs.Prelude.{◌≡◌, ◌+◌, ◌*◌, ◌^◌, ◌<�
 ghost use Rattle.std.specs.List.{All};
 ghost use Rattle.lattice_theory.specs.Vector.{HaveDimension};
 ghost use Rattle.lattice_theory.specs.Size.{size, weight};
-ghost use Rattle.lattice_core.specs.Limits.{size_limit_of};
+ghost use Rattle.lattice_core.specs.Limits.{size_limit_of, IsSized};
 ghost use Rattle.lattice_core.specs.Dimensions.{dimension_of};
 ghost use Rattle.hull.specs.Differences.{difference, differences};
-ghost use Rattle.hull.specs.Faults.{IsSized};
 ghost use Rattle.hull.specs.Kernels.{IsPrimitiveKernel};
 
 use crate::kernel::{kernel_of_none, kernel_with};

@@ -7,7 +7,8 @@ ghost use Rattle.lattice_theory.specs.Size.{size};
 ghost use Rattle.lattice_theory.specs.Facet.{IsFlat, AreFacets};
 ghost use Rattle.lattice_core.specs.Dimensions.{dimension_of};
 ghost use Rattle.hull.specs.Bounded.{IsWithin};
-ghost use Rattle.hull.specs.Faults.{IsSized, IsSizeRefusal, IsStartRefusal, IsFacetsFault, facet_limit};
+ghost use Rattle.lattice_core.specs.Limits.{IsSized};
+ghost use Rattle.hull.specs.Faults.{IsSizeRefusal, IsStartRefusal, IsFacetsFault, facet_limit};
 
 use crate::flat::flat_function;
 use crate::kernel::kernel_of_none;

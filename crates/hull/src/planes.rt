@@ -4,7 +4,7 @@ ghost use Rattle.std.specs.Prelude.{◌≡◌, ◌↔◌, ◌<◌, ◌≤◌, le
 ghost use Rattle.lattice_theory.specs.Vector.{HaveDimension};
 ghost use Rattle.lattice_core.specs.Dimensions.{dimension_of};
 ghost use Rattle.hull.specs.Hyperplanes.{IsHyperplane, HasTwoFunctions};
-ghost use Rattle.hull.specs.Faults.{IsSized};
+ghost use Rattle.lattice_core.specs.Limits.{IsSized};
 
 use crate::differences::kernel_of;
 use crate::functions::{function_at, opposite, starts_positive};

@@ -6,7 +6,7 @@ ghost use Rattle.lattice_theory.specs.Vector.{dot, HaveDimension};
 ghost use Rattle.lattice_theory.specs.Affine.{Affine, IsNonnegative};
 ghost use Rattle.lattice_theory.specs.Facet.{IsFacet};
 ghost use Rattle.lattice_theory.specs.Size.{size, weight};
-ghost use Rattle.hull.specs.Faults.{IsSized};
+ghost use Rattle.lattice_core.specs.Limits.{IsSized};
 ghost use Rattle.hull.specs.Search.{IsKernelOfPoints, IsReached, AddsFacets, IsSupporting, AddsEach};
 
 use crate::differences::point_difference;

@@ -5,9 +5,10 @@ ghost use Rattle.std.specs.List.{All};
 ghost use Rattle.lattice_theory.specs.Vector.{HaveDimension};
 ghost use Rattle.lattice_theory.specs.Size.{weight};
 ghost use Rattle.lattice_theory.specs.Hull.{AreVertices};
-ghost use Rattle.lattice_theory.specs.Facet.{IsFlat, AreFacets};
+ghost use Rattle.lattice_theory.specs.Facet.{IsFlat, AreFacetsInAnyOrder};
 ghost use Rattle.lattice_core.specs.Dimensions.{dimension_of};
-ghost use Rattle.hull.specs.Faults.{IsSized, IsVerticesFault, vertex_limit};
+ghost use Rattle.lattice_core.specs.Limits.{IsSized};
+ghost use Rattle.hull.specs.Faults.{IsVerticesFault, vertex_limit};
 ghost use Rattle.hull.specs.Tight.{LiesWith, LiesAlone};
 
 use lattice_core::{Fault, Functional, LimitName, NoMemory, Point, Refusal, ascending_points};
@@ -42,7 +43,7 @@ fn is_vertex(points: &[Point], facets: &[Functional], v: &Point) -> bool
         .all(|p| p.is_same(v) || !lies_with(facets, v, p))
 }
 
-/// All vertices of points that aren't flat, each once, in lexicographic order.
+/// All vertices of points that aren't flat, each once, in lexicographic order. `facets` are the points' facets, in any order.
 fn all_vertices(
     alloc: Global,
     points: &[Point],
@@ -51,7 +52,7 @@ fn all_vertices(
     requires one_dimension { HaveDimension (dimension_of points.now) points.now }
     requires within { IsSized (dimension_of points.now) points.now }
     requires solid { IsFlat (dimension_of points.now) points.now → ⊥ }
-    requires facets { AreFacets (dimension_of points.now) points.now facets.now }
+    requires facets { AreFacetsInAnyOrder (dimension_of points.now) points.now facets.now }
     ensures { IfOk result (λ vs. AreVertices (dimension_of points.now) points.now vs.items) }
 {
     let mut vertices = Vec::new(alloc);
@@ -64,8 +65,9 @@ fn all_vertices(
     Ok(vertices)
 }
 
-/// All vertices of points that aren't flat, each once, in lexicographic order. `facets` are the points' facets, and the points are within the
-/// size limit; points may repeat. More than 128 vertices are refused with their number. Source: math/0204356, section 2.
+/// All vertices of points that aren't flat, each once, in lexicographic order. `facets` are all facets of the points, in any order; the points
+/// have 1 to 6 coordinates, are within the size limit of their dimension, and may repeat. More than 128 vertices are refused with their number,
+/// and nothing else is refused; without memory for the answer it is `NoMemory`. Source: math/0204356, section 2.
 pub fn vertices_of(
     alloc: Global,
     points: &[Point],
@@ -74,7 +76,7 @@ pub fn vertices_of(
     requires one_dimension { HaveDimension (dimension_of points.now) points.now }
     requires within { IsSized (dimension_of points.now) points.now }
     requires solid { IsFlat (dimension_of points.now) points.now → ⊥ }
-    requires facets { AreFacets (dimension_of points.now) points.now facets.now }
+    requires facets { AreFacetsInAnyOrder (dimension_of points.now) points.now facets.now }
     ensures vertices { IfOk result (λ vs. AreVertices (dimension_of points.now) points.now vs.items) }
     ensures few { IfOk result (λ vs. length vs.items ≤ vertex_limit) }
     ensures refused { IfErr result (IsVerticesFault (dimension_of points.now) points.now) }

@@ -19,7 +19,7 @@ use Rattle.normal_bounds.proofs.Products.{functions_fit_lem, combine_products_fi
 use Rattle.lattice_core.specs.Limits.{size_limit_of}
 use Rattle.lattice_core.specs.Divisors.{IsPrimitivePart}
 use Rattle.lattice_core.specs.Combine.{IsPositiveCombination, IsCombinationAt, AreOpposite, twice_limit, IsSmallAt, IsFixedWithinLimit, IsCrossSum}
-use Rattle.lattice_core.proofs.SizeLimits.{limit_safe, limit_positive}
+use Rattle.lattice_core.proofs.SizeLimits.{limit_positive}
 
 -- the weight of a vector with small entries
 weight_each : (bound : ℕ) {x : List ℤ} → Each (λ a. nat_abs a ≤ bound) x → weight x ≤ length x * bound
@@ -54,7 +54,7 @@ normal_weight n x h l w =
 pub value_small : (p : List ℤ) (f : Affine) → IsSmallAt p f → nat_abs (value f p) < 2 ^ 76
 value_small p f h =
     let n = length p in
-    let fits : twice_limit n ^ n < 2 ^ 76 = values_fit_lem n n (size_limit_of n) (omega arith) (limit_safe n) in
+    let fits : twice_limit n ^ n < 2 ^ 76 = values_fit_lem n n (size_limit_of n) (omega arith) (omega arith) in
     let b = h.at_point in
     omega (arith, fits, b)
 
@@ -69,7 +69,7 @@ products_small [] f g b some hf hg e = absurd (omega arith)
 products_small (x ∷ p) f g b some hf hg e =
     let n = suc (length p) in
     let at_point = hg.at_point in
-    combine_products_fit_lem (length p) (size_limit_of n) b f.normal (limit_safe n) (rw e at_point)
+    combine_products_fit_lem (length p) (size_limit_of n) b f.normal (omega arith) (rw e at_point)
     (subst (λ (j : ℕ). EntriesWithin (twice_limit n ^ j) f.normal) (behind (length p)) hf.entries)
   where
     behind : (k : ℕ) → suc k - 1 ≡ k
@@ -204,7 +204,7 @@ fixed_small (suc k) h some most f =
     let positive = limit_positive n some most in
     let weights = All-weaker (λ p. weight p ≤ size n f.points) (λ p. weight p ≤ S) (λ p w. let s = f.small in omega (arith, w, s)) f.points (point_weight_lem n f.points f.dimension) in
     let bound = normal_bound_lem k S f.points h positive f.count f.dimension weights f.fixed in
-    let fits = functions_fit_lem k S f.points h positive (limit_safe n) f.count f.dimension weights f.fixed in
+    let fits = functions_fit_lem k S f.points h positive (omega arith) f.count f.dimension weights f.fixed in
     (fits.0, normal_weight n h.normal most f.fixed.dimension (subst (λ (j : ℕ). EntriesWithin (twice_limit n ^ j) h.normal) (behind k) bound.0))
   where
     behind : (k : ℕ) → k ≡ suc k - 1

@@ -1,18 +1,6 @@
 -- The size limits of the dimensions.
 use Rattle.std.proofs.Common.{ℕ, zero, suc, ◌^◌, ◌≤◌, arith}
 use Rattle.lattice_core.specs.Limits.{size_limit_of}
-use Rattle.normal_bounds.specs.Bounds.{safe_size}
-
--- up to the limit all numbers are small enough
-pub limit_safe : (n : ℕ) → size_limit_of n ≤ safe_size n
-limit_safe zero = omega arith
-limit_safe (suc zero) = omega arith
-limit_safe (suc (suc zero)) = omega arith
-limit_safe (suc (suc (suc zero))) = omega arith
-limit_safe (suc (suc (suc (suc zero)))) = omega arith
-limit_safe (suc (suc (suc (suc (suc zero))))) = omega arith
-limit_safe (suc (suc (suc (suc (suc (suc zero)))))) = omega arith
-limit_safe (suc (suc (suc (suc (suc (suc (suc n))))))) = omega arith
 
 -- no limit is above that of the plane
 pub limit_bound : (n : ℕ) → size_limit_of n ≤ 2 ^ 30

@@ -2,9 +2,8 @@
 use Rattle.std.specs.Prelude.{◌≡◌, ◌⊎◌, ℕ, ◌*◌, ◌^◌, ◌-◌, ◌<◌, ◌≤◌, List, length, ℤ, pos, ◌+ℤ◌, ◌*ℤ◌, ◌<ℤ◌, nat_abs}
 use Rattle.lattice_theory.specs.Vector.{entry, IsPrimitive, HaveDimension}
 use Rattle.lattice_theory.specs.Affine.{Affine, value}
-use Rattle.lattice_theory.specs.Size.{size}
 use Rattle.normal_bounds.specs.Bounds.{EntriesWithin, IsFixedBy}
-use Rattle.lattice_core.specs.Limits.{size_limit_of}
+use Rattle.lattice_core.specs.Limits.{size_limit_of, IsSized}
 
 -- h is a positive rational combination of f and g: a h = b f + c g with positive integers a, b and c
 pub record IsPositiveCombination (f g h : Affine) : Type 0 where
@@ -41,7 +40,7 @@ pub record IsFixedWithinLimit (n : ℕ) (h : Affine) : Type 0 where
   pub points : List (List ℤ)
   pub count : length points ≡ n
   pub dimension : HaveDimension n points
-  pub small : size n points ≤ size_limit_of n
+  pub small : IsSized n points
   pub fixed : IsFixedBy n points h
 
 -- f and g have a combination at p, and n points within the size limit fix it

@@ -1,13 +1,12 @@
 -- How large the numbers of an item may be. This project's own.
-use Rattle.std.specs.Prelude.{ℕ, zero, suc}
+use Rattle.std.specs.Prelude.{ℕ, ◌≤◌, List, ℤ}
+use Rattle.lattice_theory.specs.Size.{size}
+use Rattle.normal_bounds.specs.Bounds.{safe_size}
 
--- the largest size that points with n coordinates may have, for n = 1, 2, 3, 4, 5 and 6 in turn; there is none for another n
+-- the largest size that points with n coordinates may have, for n from 1 to 6: the one up to which all numbers fit. There is none for another n.
 abbrev pub size_limit_of : ℕ → ℕ
-size_limit_of zero = 0
-size_limit_of (suc zero) = 1_073_741_824
-size_limit_of (suc (suc zero)) = 1_073_741_824
-size_limit_of (suc (suc (suc zero))) = 16_777_216
-size_limit_of (suc (suc (suc (suc zero)))) = 100_000
-size_limit_of (suc (suc (suc (suc (suc zero))))) = 8_000
-size_limit_of (suc (suc (suc (suc (suc (suc zero)))))) = 1_024
-size_limit_of (suc (suc (suc (suc (suc (suc (suc n))))))) = 0
+size_limit_of n = safe_size n
+
+-- the size of the points is within the limit of their dimension
+abbrev pub IsSized : ℕ → List (List ℤ) → Type 0
+IsSized n points = size n points ≤ size_limit_of n

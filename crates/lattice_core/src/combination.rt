@@ -11,8 +11,9 @@ use crate::{Functional, Point, narrowed, primitive};
 use arrayvec::ArrayVec;
 
 /// The function with a normal of greatest common divisor 1 that vanishes at `p` and is a positive rational combination of `f` and `g`, whose
-/// values at `p` have opposite signs. Both functions are as small as those that points within the size limit fix, and such points fix the
-/// answer, too.
+/// values at `p` have opposite signs. For n coordinates, 1 to 6, and S the size limit of n, the entries of both normals are at most (2S)^(n-1)
+/// and the values at `p` at most (2S)^n, in absolute value; n points of a size of at most S fix the answer, so the same holds for its entries.
+/// The point itself may have any size.
 pub fn combine(f: &Functional, g: &Functional, p: &Point) -> Functional
     requires opposite { AreOpposite (value f.now p.now) (value g.now p.now) }
     requires left { IsSmallAt p.now f.now }

@@ -54,7 +54,8 @@ fn common_divisor(v: &[i128]) -> u128
     divisor
 }
 
-/// The vector divided by the greatest common divisor of its entries. It is `None` exactly where all entries are 0.
+/// The vector divided by the greatest common divisor of its entries, of which there are 1 to 6, none of them the least `i128`. It is `None`
+/// exactly where all entries are 0.
 pub fn primitive(v: &[i128]) -> Option<ArrayVec<i128, 6>>
     requires least { 1 ≤ length v.now }
     requires most { length v.now ≤ 6 }

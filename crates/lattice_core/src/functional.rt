@@ -85,7 +85,8 @@ impl Functional {
         self.normal.len()
     }
 
-    /// The function's value at a point of the same dimension.
+    /// The function's value at a point of the same dimension, for a constant of absolute value at most 2^100 and a point whose entries' absolute
+    /// values sum to at most 2^33.
     #[inline]
     pub fn at(&self, p: &Point) -> i128
         requires dimension { length self.now.normal ≡ length p.now }

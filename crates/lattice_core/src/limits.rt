@@ -2,7 +2,8 @@
 ghost use Rattle.std.specs.Prelude.{◌≡◌, ◌≤◌, pos};
 ghost use Rattle.lattice_core.specs.Limits.{size_limit_of};
 
-/// The largest size that points with `n` coordinates may have. The size is the sum over the coordinates of the largest absolute value.
+/// The largest size that points with `n` coordinates may have, `n` from 1 to 6. The size is the sum over the coordinates of the largest absolute
+/// value. This project's own.
 pub fn size_limit(n: usize) -> i64
     requires least { 1 ≤ n }
     requires most { n ≤ 6 }

@@ -3,7 +3,8 @@ ghost use Rattle.std.specs.Prelude.{◌≡◌, ◌^◌, ◌≤◌, ◌*◌, ◌*
 ghost use Rattle.lattice_theory.specs.Vector.{dot};
 ghost use Rattle.lattice_theory.specs.Size.{weight};
 
-/// The sum of the products of the entries.
+/// The sum of the products of the entries of two vectors of equal length, at most 6. The absolute values of the second vector's entries sum to
+/// at most 2^33, and the answer's is at most 2^96.
 #[inline]
 pub fn pair(a: &[i64], b: &[i64]) -> i128
     requires same_length { length a.now ≡ length b.now }
@@ -15,7 +16,7 @@ pub fn pair(a: &[i64], b: &[i64]) -> i128
     wide_pair(a, b)
 }
 
-/// The same, where the entries of the second vector may be larger.
+/// The same, where the second vector's absolute values may sum to 2^60.
 #[inline]
 pub(crate) fn wide_pair(a: &[i64], b: &[i64]) -> i128
     requires same_length { length a.now ≡ length b.now }

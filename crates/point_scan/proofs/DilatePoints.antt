@@ -7,7 +7,7 @@ use Rattle.std.proofs.lemmas.List.Elements.{All-contains}
 use Rattle.lattice_theory.specs.Vector.{entry}
 use Rattle.lattice_theory.specs.Affine.{Affine, value_over, IsNonnegative}
 use Rattle.lattice_theory.specs.Order.{LexLess}
-use Rattle.lattice_theory.specs.Facet.{AreFacets}
+use Rattle.lattice_theory.specs.Facet.{AreFacetsInAnyOrder}
 use Rattle.lattice_theory.specs.Points.{IsLatticePoint, AreLatticePoints, IsDilatePoint}
 use Rattle.lattice_theory.proofs.Integers.{difference_from, order_from}
 use Rattle.lattice_theory.proofs.Members.{In, each_from_in, each_in, in_from_contains, contains_from_in}
@@ -63,7 +63,7 @@ module _ (n : ℕ) (points : List (List ℤ)) (solid : AreSolid n points) (j : �
           (rw s.low_is b.0, rw s.high_is b.1);
     }
 
-    module _ (facets : List Affine) (are : AreFacets n points facets) where
+    module _ (facets : List Affine) (are : AreFacetsInAnyOrder n points facets) where
       -- each of the points that are kept is in the dilate
       kept_is_dilate : (p : List ℤ) → In p (filter (is_inside facets j) (grid low high)) → IsDilatePoint n points j p
       kept_is_dilate p i =
@@ -72,7 +72,7 @@ module _ (n : ℕ) (points : List (List ℤ)) (solid : AreSolid n points) (j : �
           let passes = each_passes (λ (f : Affine). int_le (pos 0) (value_over f p (pos j))) facets kept.passes in
           record {
             dimension = sym box.low_dimension ∙ corners.low_dimension;
-            inside = λ f facet. fact_of (value_over f p (pos j)) (each_in passes (in_from_contains facets ((are.members f).1 facet)));
+            inside = λ f facet. fact_of (value_over f p (pos j)) (each_in passes (in_from_contains facets ((are f).1 facet)));
           }
 
       -- each of the dilate is kept
@@ -80,7 +80,7 @@ module _ (n : ℕ) (points : List (List ℤ)) (solid : AreSolid n points) (j : �
       dilate_is_kept p dilate =
           in_filter (is_inside facets j) (grid low high) (in_grid low high p (dilate_in_box p dilate))
           (all_pass (λ (f : Affine). int_le (pos 0) (value_over f p (pos j))) facets
-          (each_from_in facets (λ f m. test_of (value_over f p (pos j)) (dilate.inside f ((are.members f).0 (contains_from_in m))))))
+          (each_from_in facets (λ f m. test_of (value_over f p (pos j)) (dilate.inside f ((are f).0 (contains_from_in m))))))
 
       pub inside_are_dilate_points : AreDilatePoints n points j (filter (is_inside facets j) (grid low high))
       inside_are_dilate_points = record {

@@ -3,7 +3,7 @@
 ghost use Rattle.std.specs.Prelude.{◌≡◌, ◌^◌, ◌<◌, ◌≤◌, length, IsOk, IfOk, IfErr};
 ghost use Rattle.lattice_theory.specs.Vector.{HaveDimension};
 ghost use Rattle.lattice_theory.specs.Size.{size};
-ghost use Rattle.lattice_theory.specs.Facet.{IsFlat, AreFacets};
+ghost use Rattle.lattice_theory.specs.Facet.{IsFlat, AreFacetsInAnyOrder};
 ghost use Rattle.lattice_theory.specs.Points.{AreLatticePoints};
 ghost use Rattle.lattice_core.specs.Limits.{size_limit_of};
 ghost use Rattle.lattice_core.specs.Dimensions.{dimension_of};
@@ -30,15 +30,15 @@ fn point_at(position: &[i64]) -> Point
     }
 }
 
-/// All lattice points of the hull of vertices that aren't flat, each once, in lexicographic order. `facets` are the vertices' facets. At
-/// least one vertex of 1 to 6 coordinates, within the size limit. More than 16,384 lattice points are refused with the number 16,385, and
-/// nothing else is refused but for memory. Source: math/0204356, section 2.
+/// All lattice points of the hull of vertices that aren't flat, each once, in lexicographic order. `facets` are all facets of the vertices, in
+/// any order. At least one vertex of 1 to 6 coordinates, within the size limit. More than 16,384 lattice points are refused with the number
+/// 16,385, and nothing else is refused; without memory for the answer it is `NoMemory`. Source: math/0204356, section 2.
 pub fn scan(alloc: Global, vertices: &[Point], facets: &[Functional]) -> Result<Vec<Point>, Fault>
     requires some { 0 < length vertices.now }
     requires dimension { HaveDimension (dimension_of vertices.now) vertices.now }
     requires within { size (dimension_of vertices.now) vertices.now ≤ size_limit_of (dimension_of vertices.now) }
     requires solid { IsFlat (dimension_of vertices.now) vertices.now → ⊥ }
-    requires facets { AreFacets (dimension_of vertices.now) vertices.now facets.now }
+    requires facets { AreFacetsInAnyOrder (dimension_of vertices.now) vertices.now facets.now }
     ensures points { IfOk result (λ points. AreLatticePoints (dimension_of vertices.now) vertices.now points.items) }
     ensures few { IfOk result (λ points. length points.items ≤ 16_384) }
     ensures refused { IfErr result (IsScanFault (dimension_of vertices.now) vertices.now) }
@@ -61,8 +61,8 @@ pub fn scan(alloc: Global, vertices: &[Point], facets: &[Functional]) -> Result<
 
 /// The number of lattice points of the dilate of the hull of vertices that aren't flat, or `limit` + 1 where there are more than `limit`.
 /// These are the integer points at which each facet, its constant taken `dilate` times, is nonnegative; for the dilate 0 that is the origin
-/// alone. `facets` are the vertices' facets. At least one vertex of 1 to 6 coordinates, within the size limit; the dilate is at most 7, and
-/// the limit at most 2^40. The box is walked without memory, so there is always an answer. Source: math/0204356, section 2.
+/// alone. `facets` are all facets of the vertices, in any order. At least one vertex of 1 to 6 coordinates, within the size limit; the dilate is
+/// at most 7, and the limit at most 2^40. The box is walked without memory, so there is always an answer. Source: math/0204356, section 2.
 pub fn count_to(
     _alloc: Global,
     vertices: &[Point],
@@ -74,7 +74,7 @@ pub fn count_to(
     requires dimension { HaveDimension (dimension_of vertices.now) vertices.now }
     requires within { size (dimension_of vertices.now) vertices.now ≤ size_limit_of (dimension_of vertices.now) }
     requires solid { IsFlat (dimension_of vertices.now) vertices.now → ⊥ }
-    requires facets { AreFacets (dimension_of vertices.now) vertices.now facets.now }
+    requires facets { AreFacetsInAnyOrder (dimension_of vertices.now) vertices.now facets.now }
     requires dilate { dilate ≤ 7 }
     requires limit { limit ≤ 2 ^ 40 }
     ensures answered { IsOk result }

@@ -1,7 +1,7 @@
 use Rattle.std.proofs.Common.{◌≡◌, List, [], ◌∷◌, ◌++◌, length, ℤ, ap, ap₂, sym, subst, ◌∙◌}
 use Rattle.lattice_theory.specs.Facet.{AreFacets}
 use Rattle.lattice_core.specs.Dimensions.{dimension_of}
-use Rattle.hull.specs.Faults.{IsSized}
+use Rattle.lattice_core.specs.Limits.{IsSized}
 use Rattle.hull.specs.Built.{HasFacets}
 use Rattle.hull.proofs.BuilderFacts.{has_facets, built_more, more_at}
 use Rattle.hull.proofs.builder.HullBuilder.insert.Goals as goal
