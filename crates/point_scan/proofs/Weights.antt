@@ -1,12 +1,13 @@
 -- The points of the box of a dilate are no larger than the dilate's size.
 use Rattle.std.specs.Prelude.{ℤ, pos, nat_abs, ◌+ℤ◌, ◌-ℤ◌, ◌*ℤ◌, ◌≤ℤ◌}
-use Rattle.std.proofs.Common.{◌≡◌, ℕ, zero, suc, ◌+◌, ◌*◌, ◌^◌, ◌<◌, ◌≤◌, List, [], ◌∷◌, length, refl, sym, ap, ◌∙◌, arith, suc-le-suc, zero-lt-suc}
+use Rattle.std.proofs.Common.{◌≡◌, ℕ, suc, ◌+◌, ◌*◌, ◌^◌, ◌<◌, ◌≤◌, List, [], ◌∷◌, length, refl, sym, ap, ◌∙◌, arith, suc-le-suc, zero-lt-suc}
 use Rattle.std.proofs.lemmas.Int.{ints, unsigned_abs-mul}
 use Rattle.std.proofs.Math.Nat.{mul-le-mul_right, mul-le-mul_left}
 use Rattle.lattice_theory.specs.Vector.{entry}
 use Rattle.lattice_theory.specs.Size.{reach, size, weight}
 use Rattle.lattice_theory.proofs.Integers.{linear, product_nonnegative, *ℤ-+ℤ, between_small}
-use Rattle.lattice_core.specs.Limits.{size_limit_of}
+use Rattle.lattice_core.specs.Limits.{IsSized}
+use Rattle.lattice_core.proofs.SizeLimits.{limit_bound}
 use Rattle.point_scan.specs.Boxes.{AreCorners, IsInBox}
 
 -- the weight of a vector whose entries are within j times the reaches from the coordinate k on
@@ -57,26 +58,15 @@ corner_in_box n points j low high corners = record {
       (omega (arith, ints), rw (s.low_is, s.high_is) (times_ordered j s.lowest s.highest s.spans.ordered));
 }
 
--- within the size limit that is small
-pub limit_small : (n : ℕ) → size_limit_of n ≤ 2 ^ 30
-limit_small zero = omega arith
-limit_small (suc zero) = omega arith
-limit_small (suc (suc zero)) = omega arith
-limit_small (suc (suc (suc zero))) = omega arith
-limit_small (suc (suc (suc (suc zero)))) = omega arith
-limit_small (suc (suc (suc (suc (suc zero))))) = omega arith
-limit_small (suc (suc (suc (suc (suc (suc zero)))))) = omega arith
-limit_small (suc (suc (suc (suc (suc (suc (suc n))))))) = omega arith
-
--- so they are small enough for values to be computed
-pub position_small : (n : ℕ) (points : List (List ℤ)) (j : ℕ) (low high x : List ℤ) → j ≤ 7 → size n points ≤ size_limit_of n → AreCorners n points j low high → IsInBox low high x → weight x ≤ 2 ^ 33
+-- within the size limit they are small enough for values to be computed
+pub position_small : (n : ℕ) (points : List (List ℤ)) (j : ℕ) (low high x : List ℤ) → j ≤ 7 → IsSized n points → AreCorners n points j low high → IsInBox low high x → weight x ≤ 2 ^ 33
 position_small n points j low high x dilate small corners inside =
     let w = weight_in_box n points j low high x corners inside in
-    let s : size n points ≤ 2 ^ 30 = omega (arith, limit_small n) in
+    let s : size n points ≤ 2 ^ 30 = omega (arith, limit_bound n) in
     omega (arith, w, mul-le-mul_right {m = j} {n = 7} (size n points) dilate, mul-le-mul_left 7 s)
 
 -- the corners are small, too
-pub low_small : (n : ℕ) (points : List (List ℤ)) (j : ℕ) (low high : List ℤ) → j ≤ 7 → size n points ≤ size_limit_of n → AreCorners n points j low high → weight low ≤ 2 ^ 33
+pub low_small : (n : ℕ) (points : List (List ℤ)) (j : ℕ) (low high : List ℤ) → j ≤ 7 → IsSized n points → AreCorners n points j low high → weight low ≤ 2 ^ 33
 low_small n points j low high dilate small corners = position_small n points j low high low dilate small corners (corner_in_box n points j low high corners)
 
 -- the highest one is in the box
@@ -88,7 +78,7 @@ top_in_box n points j low high corners = record {
 }
 
 -- so it is small
-pub high_small : (n : ℕ) (points : List (List ℤ)) (j : ℕ) (low high : List ℤ) → j ≤ 7 → size n points ≤ size_limit_of n → AreCorners n points j low high → weight high ≤ 2 ^ 33
+pub high_small : (n : ℕ) (points : List (List ℤ)) (j : ℕ) (low high : List ℤ) → j ≤ 7 → IsSized n points → AreCorners n points j low high → weight high ≤ 2 ^ 33
 high_small n points j low high dilate small corners = position_small n points j low high high dilate small corners (top_in_box n points j low high corners)
 
 -- the corners told by equations

@@ -2,13 +2,12 @@
 
 ghost use Rattle.std.specs.Prelude.{◌≡◌, ◌^◌, ◌<◌, ◌≤◌, length, IsOk, IfOk, IfErr};
 ghost use Rattle.lattice_theory.specs.Vector.{HaveDimension};
-ghost use Rattle.lattice_theory.specs.Size.{size};
 ghost use Rattle.lattice_theory.specs.Facet.{IsFlat, AreFacetsInAnyOrder};
 ghost use Rattle.lattice_theory.specs.Points.{AreLatticePoints};
-ghost use Rattle.lattice_core.specs.Limits.{size_limit_of};
+ghost use Rattle.lattice_core.specs.Limits.{IsSized};
 ghost use Rattle.lattice_core.specs.Dimensions.{dimension_of};
 ghost use Rattle.point_scan.specs.Dilates.{CountsDilatePoints};
-ghost use Rattle.point_scan.specs.Faults.{IsScanFault};
+ghost use Rattle.point_scan.specs.Faults.{IsScanFault, point_limit};
 
 use crate::inside::ruled_out;
 use crate::walk::Walk;
@@ -36,11 +35,11 @@ fn point_at(position: &[i64]) -> Point
 pub fn scan(alloc: Global, vertices: &[Point], facets: &[Functional]) -> Result<Vec<Point>, Fault>
     requires some { 0 < length vertices.now }
     requires dimension { HaveDimension (dimension_of vertices.now) vertices.now }
-    requires within { size (dimension_of vertices.now) vertices.now ≤ size_limit_of (dimension_of vertices.now) }
+    requires within { IsSized (dimension_of vertices.now) vertices.now }
     requires solid { IsFlat (dimension_of vertices.now) vertices.now → ⊥ }
     requires facets { AreFacetsInAnyOrder (dimension_of vertices.now) vertices.now facets.now }
     ensures points { IfOk result (λ points. AreLatticePoints (dimension_of vertices.now) vertices.now points.items) }
-    ensures few { IfOk result (λ points. length points.items ≤ 16_384) }
+    ensures few { IfOk result (λ points. length points.items ≤ point_limit) }
     ensures refused { IfErr result (IsScanFault (dimension_of vertices.now) vertices.now) }
 {
     let mut walk = Walk::start(vertices, 1);
@@ -51,7 +50,8 @@ pub fn scan(alloc: Global, vertices: &[Point], facets: &[Functional]) -> Result<
         } else if points.len() < MOST_POINTS {
             points.push(point_at(walk.position()))?;
         } else {
-            return Err(Fault::Refused(Refusal::Limit(LimitName::Points, 16_385)));
+            let told = MOST_POINTS as u128 + 1;
+            return Err(Fault::Refused(Refusal::Limit(LimitName::Points, told)));
         }
         if !walk.advance() {
             return Ok(points);
@@ -72,7 +72,7 @@ pub fn count_to(
 ) -> Result<u64, NoMemory>
     requires some { 0 < length vertices.now }
     requires dimension { HaveDimension (dimension_of vertices.now) vertices.now }
-    requires within { size (dimension_of vertices.now) vertices.now ≤ size_limit_of (dimension_of vertices.now) }
+    requires within { IsSized (dimension_of vertices.now) vertices.now }
     requires solid { IsFlat (dimension_of vertices.now) vertices.now → ⊥ }
     requires facets { AreFacetsInAnyOrder (dimension_of vertices.now) vertices.now facets.now }
     requires dilate { dilate ≤ 7 }

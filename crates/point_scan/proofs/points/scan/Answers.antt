@@ -5,6 +5,7 @@ use Rattle.facet_theory.specs.Laws.{AreSolid}
 use Rattle.point_scan.specs.Boxes.{grid, AreCorners, Advances}
 use Rattle.lattice_core.specs.Dimensions.{dimension_of}
 use Rattle.point_scan.specs.Dilates.{is_inside}
+use Rattle.point_scan.specs.Faults.{point_limit}
 use Rattle.point_scan.proofs.Walks.{IsPast, at_start, past_kept, past_moved, advanced, finished, more, moved}
 use Rattle.point_scan.proofs.Passes.{past_passed}
 use Rattle.point_scan.proofs.Weights.{corner_in_box, corners_moved, low_small, high_small, position_small}
@@ -64,7 +65,7 @@ returns-else-len-lt-MOST_POINTS-clause-refused c =
 record IsReady (c : After-advance) : Type 0 where
   corners : AreCorners (dimension_of c.args.vertices.now) c.args.vertices.now 1 c.match-ruled_out.walk.low.items c.match-ruled_out.walk.high.items
   past : IsPast (is_inside c.args.facets.now 1) c.match-ruled_out.walk.low.items c.match-ruled_out.walk.high.items c.match-ruled_out.walk.position.items c.match-ruled_out.points.items
-  few : length c.match-ruled_out.points.items ≤ 16_384
+  few : length c.match-ruled_out.points.items ≤ point_limit
 
 -- by whether that place is ruled out
 ready : (c : After-advance) → IsReady c
