@@ -2,17 +2,16 @@
 use Rattle.std.specs.Prelude.{ℤ}
 use Rattle.std.proofs.Common.{◌≡◌, ℕ, ◌<◌, ◌≤◌, List, length, arith}
 use Rattle.lattice_theory.specs.Affine.{Affine}
-use Rattle.lattice_theory.specs.Size.{size}
 use Rattle.lattice_theory.specs.Hull.{AreVertices}
 use Rattle.lattice_theory.specs.Facet.{IsFlat, AreFacets}
-use Rattle.lattice_core.specs.Limits.{size_limit_of}
+use Rattle.lattice_core.specs.Limits.{IsSized}
 use Rattle.palp_engine.specs.Reports.{body_line, HaveFewVertices, HaveManyPoints, IsBodyLine}
 use Rattle.palp_engine.proofs.VertexLists.{CountsLatticePoints}
 
 -- the facets and vertices of points that passed the steps before the lattice points
 pub record ArePassed (n : ℕ) (points : List (List ℤ)) (facets : List Affine) (vertices : List (List ℤ)) : Type 0 where
   pub dimension : n ≤ 6
-  pub small : size n points ≤ size_limit_of n
+  pub small : IsSized n points
   pub solid : IsFlat n points → ⊥
   pub are_facets : AreFacets n points facets
   pub few_facets : length facets ≤ 128

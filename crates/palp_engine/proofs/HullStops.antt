@@ -1,6 +1,6 @@
 -- What stops the search for facets and vertices, as what stops the work on points.
 use Rattle.std.specs.Prelude.{ℤ}
-use Rattle.std.proofs.Common.{ℕ, ◌≤◌, List, arith}
+use Rattle.std.proofs.Common.{ℕ, ◌≤◌, List}
 use Rattle.lattice_core.specs.declared.faults.Fault.{Fault}
 use Rattle.lattice_core.specs.declared.faults.Fault.TheVariants as faults
 use Rattle.lattice_core.specs.declared.faults.Refusal.TheVariants.{Flat, Limit}
@@ -13,25 +13,13 @@ use Rattle.palp_engine.specs.Stops.{StopsPoints}
 pub facets_stop : (n : ℕ) (points : List (List ℤ)) (fault : Fault) → n ≤ 6 → IsFacetsFault n points fault → StopsPoints n points fault
 facets_stop n points (faults.Refused (Flat f)) most h = flat (record { dimension = most; small = h.0 }) h.1
 facets_stop n points (faults.Refused (Limit Size told)) most h = large (record { dimension = most; large = h.1; told_is = h.0 })
-facets_stop n points (faults.Refused (Limit Facets told)) most h = many_facets (record {
-  full = record { sized = record { dimension = most; small = h.0 }; solid = h.1 };
-  facets = h.2.facets;
-  are_facets = h.2.are_facets;
-  many = let e = h.2.count in let m = h.2.many in omega arith;
-  told_is = h.2.count;
-})
+facets_stop n points (faults.Refused (Limit Facets told)) most h = many_facets (record { sized = record { dimension = most; small = h.0 }; solid = h.1 }) h.2
 facets_stop n points (faults.Refused (Limit other told)) most h = absurd h
 facets_stop n points faults.NoMemory most h = h
 
 -- no vertices are handed out
 pub vertices_stop : (n : ℕ) (points : List (List ℤ)) (fault : Fault) → HaveFewFacets n points → IsVerticesFault n points fault → StopsPoints n points fault
 vertices_stop n points (faults.Refused (Flat f)) few h = absurd h
-vertices_stop n points (faults.Refused (Limit Vertices told)) few h = many_vertices (record {
-  faces = few;
-  vertices = h.vertices;
-  are_vertices = h.are_vertices;
-  many = let e = h.count in let m = h.many in omega arith;
-  told_is = h.count;
-})
+vertices_stop n points (faults.Refused (Limit Vertices told)) few h = many_vertices few h
 vertices_stop n points (faults.Refused (Limit other told)) few h = absurd h
 vertices_stop n points faults.NoMemory few h = h

@@ -5,10 +5,10 @@ use Rattle.lattice_theory.specs.Vector.{HaveDimension}
 use Rattle.lattice_theory.specs.Affine.{Affine, value, IsNonnegative, Vanishes}
 use Rattle.lattice_theory.specs.Size.{reach, size}
 use Rattle.lattice_theory.specs.Hull.{AreVertices}
-use Rattle.lattice_theory.specs.Facet.{IsFlat, AreFacets}
+use Rattle.lattice_theory.specs.Facet.{IsFlat, AreFacetsInAnyOrder}
 use Rattle.lattice_theory.specs.Points.{IsLatticePoint, AreLatticePoints, IsDilatePoint}
 use Rattle.lattice_theory.proofs.Integers.{minus_one-*ℤ, linear, products_out}
-use Rattle.lattice_core.specs.Limits.{size_limit_of}
+use Rattle.lattice_core.specs.Limits.{IsSized}
 use Rattle.lattice_core.specs.Dimensions.{dimension_of}
 use Rattle.lattice_theory.proofs.Members.{In, here, there, each_from_all, all_from_each, each_from_in, each_in, in_from_contains, contains_from_in}
 use Rattle.lattice_theory.proofs.Sizes.{within_reach}
@@ -100,15 +100,11 @@ vertices_solid n points vertices solid are flat =
     })
 
 -- the facets of the points are those of the vertices
-pub vertices_facets : (n : ℕ) (points vertices : List (List ℤ)) (facets : List Affine) → AreSolid n points → AreVertices n points vertices → AreFacets n points facets → AreFacets n vertices facets
-vertices_facets n points vertices facets solid are fs =
-    record {
-      ascends = fs.ascends;
-      members = λ f.
-          let same = facets_of_vertices_lem n points vertices solid are.members f in
-          let here = fs.members f in
-          (λ c. same.0 (here.0 c), λ h. here.1 (same.1 h));
-    }
+vertices_facets : (n : ℕ) (points vertices : List (List ℤ)) (facets : List Affine) → AreSolid n points → AreVertices n points vertices → AreFacetsInAnyOrder n points facets → AreFacetsInAnyOrder n vertices facets
+vertices_facets n points vertices facets solid are fs f =
+    let same = facets_of_vertices_lem n points vertices solid are.members f in
+    let here = fs f in
+    (λ c. same.0 (here.0 c), λ h. here.1 (same.1 h))
 
 -- the lattice points of the vertices, taken once, are those of the points
 lattice_once : (n : ℕ) (points vertices : List (List ℤ)) → AreSolid n points → AreVertices n points vertices → (x : List ℤ) → IsDilatePoint n vertices 1 x ↔ IsLatticePoint n points x
@@ -140,12 +136,12 @@ lattice_of_vertices n points vertices lattice solid are ls =
 pub record CanCount (vertices : List (List ℤ)) (facets : List Affine) : Type 0 where
   pub some : 0 < length vertices
   pub dimension : HaveDimension (dimension_of vertices) vertices
-  pub within : size (dimension_of vertices) vertices ≤ size_limit_of (dimension_of vertices)
+  pub within : IsSized (dimension_of vertices) vertices
   pub solid : IsFlat (dimension_of vertices) vertices → ⊥
-  pub are_facets : AreFacets (dimension_of vertices) vertices facets
+  pub are_facets : AreFacetsInAnyOrder (dimension_of vertices) vertices facets
 
-pub can_count : (n : ℕ) (points vertices : List (List ℤ)) (facets : List Affine) → AreSolid n points → 0 < length points → size n points ≤ size_limit_of n
-    → AreVertices n points vertices → AreFacets n points facets → CanCount vertices facets
+pub can_count : (n : ℕ) (points vertices : List (List ℤ)) (facets : List Affine) → AreSolid n points → 0 < length points → IsSized n points
+    → AreVertices n points vertices → AreFacetsInAnyOrder n points facets → CanCount vertices facets
 can_count n points vertices facets solid some small are fs =
     let filled = some_vertex n points vertices solid some are in
     let dims = vertices_dimension n points vertices solid.dimension are in

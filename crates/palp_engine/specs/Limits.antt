@@ -26,12 +26,6 @@ most_numbers = 16_384
 abbrev pub most_monomials : ℕ
 most_monomials = 16_384
 
--- the facets, the vertices and the lattice points of the points' hull
-abbrev pub most_facets : ℕ
-most_facets = 128
-
-abbrev pub most_vertices : ℕ
-most_vertices = 128
-
+-- the lattice points of the points' hull
 abbrev pub most_points : ℕ
 most_points = 16_384

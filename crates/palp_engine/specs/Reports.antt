@@ -7,11 +7,12 @@ use Rattle.lattice_theory.specs.Size.{size}
 use Rattle.lattice_theory.specs.Hull.{AreVertices}
 use Rattle.lattice_theory.specs.Facet.{IsFlat, IsFlatFunction, AreFacets}
 use Rattle.lattice_theory.specs.Points.{AreLatticePoints}
-use Rattle.lattice_core.specs.Limits.{size_limit_of}
+use Rattle.lattice_core.specs.Limits.{size_limit_of, IsSized}
 use Rattle.lattice_core.specs.declared.faults.Refusal.{Refusal}
 use Rattle.lattice_core.specs.declared.faults.Refusal.TheVariants.{Flat, Limit}
 use Rattle.lattice_core.specs.declared.faults.LimitName.TheVariants.{Size, Facets, Vertices, Points}
-use Rattle.palp_engine.specs.Limits.{most_coordinates, most_facets, most_vertices, most_points}
+use Rattle.hull.specs.Faults.{facet_limit, vertex_limit, HasManyFacets, HasManyVertices}
+use Rattle.palp_engine.specs.Limits.{most_coordinates, most_points}
 
 -- the line that tells the numbers of lattice points, vertices and facets
 abbrev pub body_line : ℕ → ℕ → ℕ → List ℕ
@@ -21,7 +22,7 @@ body_line points vertices facets =
 -- the points have few coordinates and are within the size limit
 pub record AreSized (n : ℕ) (points : List (List ℤ)) : Type 0 where
   pub dimension : n ≤ most_coordinates
-  pub small : size n points ≤ size_limit_of n
+  pub small : IsSized n points
 
 -- and they aren't flat
 pub record AreFull (n : ℕ) (points : List (List ℤ)) : Type 0 where
@@ -33,14 +34,14 @@ pub record HaveFewFacets (n : ℕ) (points : List (List ℤ)) : Type 0 where
   pub full : AreFull n points
   pub facets : List Affine
   pub are_facets : AreFacets n points facets
-  pub few : length facets ≤ most_facets
+  pub few : length facets ≤ facet_limit
 
 -- and they have few vertices
 pub record HaveFewVertices (n : ℕ) (points : List (List ℤ)) : Type 0 where
   pub faces : HaveFewFacets n points
   pub vertices : List (List ℤ)
   pub are_vertices : AreVertices n points vertices
-  pub few : length vertices ≤ most_vertices
+  pub few : length vertices ≤ vertex_limit
 
 -- the line says how many lattice points, vertices and facets the points' hull has, and the points aren't refused
 pub record IsBodyLine (n : ℕ) (points : List (List ℤ)) (line : List ℕ) : Type 0 where
@@ -56,22 +57,6 @@ pub record AreLarge (n : ℕ) (points : List (List ℤ)) (told : ℕ) : Type 0 w
   pub large : size_limit_of n < size n points
   pub told_is : told ≡ size n points
 
--- the points have too many facets, and their number is told
-pub record HaveManyFacets (n : ℕ) (points : List (List ℤ)) (told : ℕ) : Type 0 where
-  pub full : AreFull n points
-  pub facets : List Affine
-  pub are_facets : AreFacets n points facets
-  pub many : most_facets < length facets
-  pub told_is : told ≡ length facets
-
--- the points have too many vertices, and their number is told
-pub record HaveManyVertices (n : ℕ) (points : List (List ℤ)) (told : ℕ) : Type 0 where
-  pub faces : HaveFewFacets n points
-  pub vertices : List (List ℤ)
-  pub are_vertices : AreVertices n points vertices
-  pub many : most_vertices < length vertices
-  pub told_is : told ≡ length vertices
-
 -- the hull has too many lattice points, and the number told is one more than the limit
 pub record HaveManyPoints (n : ℕ) (points : List (List ℤ)) (told : ℕ) : Type 0 where
   pub polytope : HaveFewVertices n points
@@ -85,6 +70,6 @@ pub record HaveManyPoints (n : ℕ) (points : List (List ℤ)) (told : ℕ) : Ty
 pub data IsRefused (n : ℕ) (points : List (List ℤ)) : Refusal → Type 0 where
   large : {told : ℕ} → AreLarge n points told → IsRefused n points (Limit Size told)
   flat : {f : Affine} → AreSized n points → IsFlatFunction n points f → IsRefused n points (Flat f)
-  many_facets : {told : ℕ} → HaveManyFacets n points told → IsRefused n points (Limit Facets told)
-  many_vertices : {told : ℕ} → HaveManyVertices n points told → IsRefused n points (Limit Vertices told)
+  many_facets : {told : ℕ} → AreFull n points → HasManyFacets n points told → IsRefused n points (Limit Facets told)
+  many_vertices : {told : ℕ} → HaveFewFacets n points → HasManyVertices n points told → IsRefused n points (Limit Vertices told)
   many_points : {told : ℕ} → HaveManyPoints n points told → IsRefused n points (Limit Points told)

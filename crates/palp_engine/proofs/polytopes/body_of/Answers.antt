@@ -15,7 +15,10 @@ ready c =
     let points = c.args.points.now in
     let solid : AreSolid (dimension_of points) points = record { coordinates = omega (arith, c.requires.least); dimension = c.requires.one_dimension; solid = c.in_ok-facets.ensures.solid } in
     rw (c.as_slice-2.ensures.value, c.as_slice-3.ensures.value) (can_count (dimension_of points) points c.in_ok-vertices.vertices.items c.in_ok-facets.facets.items
-    solid c.requires.some c.in_ok-facets.ensures.within c.in_ok-vertices.ensures.vertices c.in_ok-facets.ensures.facets)
+    solid c.requires.some c.in_ok-facets.ensures.within c.in_ok-vertices.ensures.vertices c.in_ok-facets.ensures.facets.members)
+
+pub vertices_of-requires-clause-facets : goal.vertices_of-requires-clause-facets
+vertices_of-requires-clause-facets c = rw c.as_slice.ensures.value c.in_ok-facets.ensures.facets.members
 
 pub count_to-requires-clause-some : goal.count_to-requires-clause-some
 count_to-requires-clause-some c = (ready c).some
