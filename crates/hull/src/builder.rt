@@ -13,7 +13,8 @@ use lattice_core::{Fault, Functional, NoMemory, Point};
 use std::alloc::Global;
 use std::marker::Model;
 
-/// Points that aren't flat, and their facets. Contracts see the two lists.
+/// Points of 1 to 6 coordinates that aren't flat, at least one more than coordinates, and their facets, however many. Contracts see the two
+/// lists. This project's own.
 #[derive(Drop)]
 pub struct HullBuilder {
     alloc: Global,
@@ -32,7 +33,7 @@ impl Model for HullBuilder {
     ghost invariant = { λ b. IsBuilt (dimension_of b.points.items) b.points.items b.facets.items };
 }
 
-/// The same points again, and room for one more.
+/// The same points again.
 fn copied_points(alloc: Global, points: &[Point]) -> Result<Vec<Point>, NoMemory>
     ensures { IfOk result (λ copies. copies.items ≡ points.now) }
 {
@@ -45,7 +46,7 @@ fn copied_points(alloc: Global, points: &[Point]) -> Result<Vec<Point>, NoMemory
 
 impl HullBuilder {
     /// The hull of the first points, of which there is one more than coordinates. Refused are points whose size is above the limit of their
-    /// dimension (the size is told), and then flat ones (with their flat function).
+    /// dimension (the size is told), and then flat ones (with their flat function). Without memory for the points and facets it is `NoMemory`.
     pub fn start(alloc: Global, points: &[Point]) -> Result<HullBuilder, Fault>
         requires one_dimension { HaveDimension (dimension_of points.now) points.now }
         requires count { length points.now ≡ dimension_of points.now + 1 }
@@ -66,7 +67,8 @@ impl HullBuilder {
     }
 
     /// Adds a point of the same dimension: afterwards the facets are those of all points so far. It is refused exactly where the size of all
-    /// points with it is above the limit (the size is told). After any error the builder is as before.
+    /// points with it is above the limit (the size is told). Without memory for the points and facets it is `NoMemory`. After any error the
+    /// builder is as before.
     pub fn insert(&mut self, p: &Point) -> Result<(), Fault>
         requires { length p.now ≡ dimension_of self.old.points }
         ensures points { OnOk result (self.new.points ≡ self.old.points ++ (p.now ∷ [])) }

@@ -10,9 +10,9 @@ use crate::differences::kernel_of;
 use crate::functions::function_at;
 use lattice_core::{Functional, Point};
 
-/// The flat function of points, of which there is at least one, within the size limit: of the functions that vanish on them, the one with a
-/// normal of greatest common divisor 1 whose last entry that isn't 0 stands earliest and is positive. It is `None` exactly where the points
-/// aren't flat.
+/// The flat function of points, of which there is at least one, with 1 to 6 coordinates and within the size limit: of the functions that vanish
+/// on them, the one with a normal of greatest common divisor 1 whose last entry that isn't 0 stands earliest and is positive. It is `None`
+/// exactly where the points aren't flat. This project's own.
 pub fn flat_function(points: &[Point]) -> Option<Functional>
     requires some { 0 < length points.now }
     requires one_dimension { HaveDimension (dimension_of points.now) points.now }

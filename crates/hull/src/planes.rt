@@ -12,7 +12,8 @@ use lattice_core::{Functional, Point};
 
 /// The hyperplane through n points with n coordinates, n from 1 to 6, within the size limit: the function that vanishes at them, with a normal
 /// of greatest common divisor 1 whose first entry that isn't 0 is positive. Every function that vanishes at the points is a multiple of it. It
-/// is `None` exactly where two functions vanish at the points that aren't multiples of each other.
+/// is `None` exactly where two functions vanish at the points that aren't multiples of each other. Source: math/0204356, section 2; the sign is
+/// this project's own.
 pub fn hyperplane(points: &[Point]) -> Option<Functional>
     requires some { 0 < length points.now }
     requires one_dimension { HaveDimension (dimension_of points.now) points.now }

@@ -42,6 +42,19 @@ fn are_points(found: &[Point], want: &[&[i64]]) -> bool {
     found.len() == want.len() && found.iter().zip(want).all(|(p, x)| p.entries() == *x)
 }
 
+/// The facets, and what the search for vertices answers.
+fn hull_of(
+    alloc: Global,
+    points: &[Point],
+) -> Result<(Vec<Functional>, Result<Vec<Point>, Fault>), Fault>
+    requires some { 0 < length points.now }
+    requires one_dimension { HaveDimension (dimension_of points.now) points.now }
+{
+    let facets = facets_of(alloc, points)?;
+    let vertices = vertices_of(alloc, points, &facets);
+    Ok((facets, vertices))
+}
+
 fn has_hull(
     alloc: Global,
     n: usize,
@@ -54,9 +67,8 @@ fn has_hull(
     if points.is_empty() {
         return Ok(false);
     }
-    let facets = facets_of(alloc, &points)?;
-    let found = vertices_of(alloc, &points, &facets)?;
-    Ok(are_functions(&facets, normals, constants) && are_points(&found, vertices))
+    let (facets, found) = hull_of(alloc, &points)?;
+    Ok(are_functions(&facets, normals, constants) && are_points(&found?, vertices))
 }
 
 #[test]
@@ -146,9 +158,8 @@ fn counts(alloc: Global, n: usize, rows: &[&[i64]]) -> Result<(usize, usize), Fa
     if points.is_empty() {
         return Ok((0, 0));
     }
-    let facets = facets_of(alloc, &points)?;
-    let vertices = vertices_of(alloc, &points, &facets)?;
-    Ok((facets.len(), vertices.len()))
+    let (facets, vertices) = hull_of(alloc, &points)?;
+    Ok((facets.len(), vertices?.len()))
 }
 
 #[test]
@@ -279,6 +290,33 @@ fn grows_by_one_point(rt: HostRuntime) -> Result<(), Fail> {
     assert_eq!(rt;
         facet_counts(rt.alloc(), &[&[-1, -1], &[2, -1], &[-1, 2]], &more)?,
         (3, 4)
+    );
+    Ok(())
+}
+
+/// The corners of a prism over a polygon with 65 corners, which lie on a parabola.
+fn prism(alloc: Global) -> Result<Vec<Point>, NoMemory>
+    ensures { IfOk result (λ points. HaveDimension (dimension_of points.items) points.items) }
+{
+    let mut points = Vec::new(alloc);
+    for number in 0..130_u32 {
+        let x = i64::from(number / 2);
+        if let Some(corner) = Point::new(&[x, x * x, i64::from(number % 2)]) {
+            points.push(corner)?;
+        }
+    }
+    Ok(points)
+}
+
+#[test]
+fn refuses_more_vertices_than_the_limit(rt: HostRuntime) -> Result<(), Fail> {
+    let points = prism(rt.alloc())?;
+    assert!(rt; !points.is_empty());
+    let (facets, vertices) = hull_of(rt.alloc(), &points)?;
+    assert_eq!(rt; facets.len(), 67);
+    assert_eq!(rt;
+        vertices.err(),
+        Some(Fault::Refused(Refusal::Limit(LimitName::Vertices, 130)))
     );
     Ok(())
 }
