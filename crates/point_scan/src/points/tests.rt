@@ -33,13 +33,37 @@ pub(super) fn have_one_dimension(points: &[Point]) -> bool
     points.iter().all(|p| p.dim() == n)
 }
 
+/// The lattice points, by the facets that are found.
+pub(super) fn scan_of(alloc: Global, vertices: &[Point]) -> Result<Vec<Point>, Fault>
+    requires some { 0 < length vertices.now }
+    requires dimension { HaveDimension (dimension_of vertices.now) vertices.now }
+{
+    let facets = facets_of(alloc, vertices)?;
+    scan(alloc, vertices, &facets)
+}
+
+/// The number of lattice points of a dilate, by the facets that are found.
+pub(super) fn count_of(
+    alloc: Global,
+    vertices: &[Point],
+    dilate: u32,
+    limit: u64,
+) -> Result<u64, Fault>
+    requires some { 0 < length vertices.now }
+    requires dimension { HaveDimension (dimension_of vertices.now) vertices.now }
+    requires dilate { dilate ≤ 7 }
+    requires limit { limit ≤ 16_384 }
+{
+    let facets = facets_of(alloc, vertices)?;
+    Ok(count_to(alloc, vertices, &facets, dilate, limit)?)
+}
+
 fn scanned<const N: usize>(alloc: Global, entries: &[[i64; N]]) -> Result<Vec<Point>, Fault> {
     let vertices = points_of(alloc, entries)?;
     if !have_one_dimension(&vertices) {
         return Ok(Vec::new(alloc));
     }
-    let facets = facets_of(alloc, &vertices)?;
-    scan(alloc, &vertices, &facets)
+    scan_of(alloc, &vertices)
 }
 
 fn counted<const N: usize>(
@@ -55,8 +79,7 @@ fn counted<const N: usize>(
     if !have_one_dimension(&vertices) {
         return Ok(0);
     }
-    let facets = facets_of(alloc, &vertices)?;
-    Ok(count_to(alloc, &vertices, &facets, dilate, limit)?)
+    count_of(alloc, &vertices, dilate, limit)
 }
 
 #[test]
