@@ -33,7 +33,7 @@ fn add_supporting(
     requires constant { nat_abs f.constant ≤ 2 ^ 100 }
     ensures { OnOk result (AddsEach (IsSupporting points.now f) facets.old.items facets.new.items) }
 {
-    if !is_nonnegative_on(points, &f) || has_function(facets, &f) {
+    if has_function(facets, &f) || !is_nonnegative_on(points, &f) {
         return Ok(());
     }
     facets.push(f)?;

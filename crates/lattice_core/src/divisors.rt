@@ -50,6 +50,9 @@ fn common_divisor(v: &[i128]) -> u128
     let mut divisor = 0;
     for entry in v {
         divisor = gcd(entry.unsigned_abs(), divisor);
+        if divisor == 1 {
+            return 1;
+        }
     }
     divisor
 }
@@ -81,6 +84,9 @@ fn quotient(a: i128, divisor: u128) -> i128
     requires divides { divisor ∣ nat_abs a }
     ensures { pos divisor *ℤ result ≡ a }
 {
+    if divisor == 1 {
+        return a;
+    }
     a / divisor as i128
 }
 
