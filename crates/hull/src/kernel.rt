@@ -1,6 +1,6 @@
 //! The kernel of a list of vectors, found by elimination: the members are primitive, at most 6, and lie in the value itself.
 
-ghost use Rattle.std.specs.Prelude.{◌≡◌, ◌≢◌, ◌⊎◌, ℕ, ◌+◌, ◌*◌, ◌^◌, ◌<◌, ◌≤◌, List, [], ◌∷◌, ◌++◌, length, take, drop, ℤ, pos, nat_abs, MatchOption, slice_index_or};
+ghost use Rattle.std.specs.Prelude.{◌≡◌, ◌≢◌, ◌⊎◌, ℕ, ◌+◌, ◌*◌, ◌^◌, ◌<◌, ◌≤◌, List, [], ◌∷◌, ◌++◌, length, take, drop, ℤ, pos, nat_abs, MatchOption, IfNone, IfSome, slice_index_or};
 ghost use Rattle.std.specs.List.{All};
 ghost use Rattle.lattice_theory.specs.Vector.{dot, IsPrimitive};
 ghost use Rattle.lattice_theory.specs.Size.{weight};
@@ -84,6 +84,25 @@ fn stepped(kernel: &[KernelMember], place: usize, v: &[i64]) -> ArrayVec<KernelM
     members
 }
 
+/// The kernel with one more vector that changes it, so that it has one member fewer. It is `None` exactly where all members pair to 0 with it.
+pub(crate) fn changed_kernel(
+    kernel: &[KernelMember],
+    v: &[i64],
+) -> Option<ArrayVec<KernelMember, 6>>
+    requires kernel { IsSmallKernel (length v.now) kernel.now }
+    requires some { 1 ≤ length v.now }
+    requires most { length v.now ≤ 6 }
+    requires small { weight v.now ≤ 2 * size_limit_of (length v.now) }
+    ensures kernel { IfSome result (λ next. (vs : List (List ℤ)) → IsPrimitiveKernel (length v.now) vs kernel.now → IsPrimitiveKernel (length v.now) (vs ++ (v.now ∷ [])) next.items) }
+    ensures count { IfSome result (λ next. length next.items + 1 ≡ length kernel.now) }
+    ensures stays { IfNone result (All (λ k. dot k.vector v.now ≡ pos 0) kernel.now) }
+{
+    match pivot_place(kernel, v) {
+        Some(place) => Some(stepped(kernel, place, v)),
+        None => None,
+    }
+}
+
 /// The kernel with one more vector.
 pub(crate) fn kernel_with(kernel: &[KernelMember], v: &[i64]) -> ArrayVec<KernelMember, 6>
     requires kernel { IsSmallKernel (length v.now) kernel.now }
@@ -91,11 +110,10 @@ pub(crate) fn kernel_with(kernel: &[KernelMember], v: &[i64]) -> ArrayVec<Kernel
     requires most { length v.now ≤ 6 }
     requires small { weight v.now ≤ 2 * size_limit_of (length v.now) }
     ensures kernel { (vs : List (List ℤ)) → IsPrimitiveKernel (length v.now) vs kernel.now → IsPrimitiveKernel (length v.now) (vs ++ (v.now ∷ [])) result.items }
-    ensures stays { length result.items ≡ length kernel.now → All (λ k. dot k.vector v.now ≡ pos 0) kernel.now }
     ensures count { (length result.items ≡ length kernel.now) ⊎ (length result.items + 1 ≡ length kernel.now) }
 {
-    match pivot_place(kernel, v) {
-        Some(place) => stepped(kernel, place, v),
+    match changed_kernel(kernel, v) {
+        Some(changed) => changed,
         None => copies(kernel),
     }
 }

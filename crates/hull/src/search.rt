@@ -11,7 +11,7 @@ ghost use Rattle.hull.specs.Search.{IsKernelOfPoints, IsReached, AddsFacets, IsS
 
 use crate::differences::point_difference;
 use crate::functions::{function_at, is_nonnegative_on, opposite};
-use crate::kernel::kernel_with;
+use crate::kernel::changed_kernel;
 use crate::member::KernelMember;
 use lattice_core::{Functional, NoMemory, Point};
 
@@ -85,8 +85,7 @@ pub(crate) fn add_facets_from(
         return Ok(());
     }
     for i in start..points.len() {
-        let next = kernel_with(kernel, point_difference(&points[i], first).as_slice());
-        if next.len() < kernel.len() {
+        if let Some(next) = changed_kernel(kernel, point_difference(&points[i], first).as_slice()) {
             add_facets_from(points, first, i + 1, next.as_slice(), facets)?;
         }
     }
