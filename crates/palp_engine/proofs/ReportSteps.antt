@@ -109,7 +109,7 @@ module _ (items : List Listed) (place : ℕ) (given_before : Option (List ℕ)) 
           is_report = so_far.goes_on ending [] (Refused (place + 1) cause)
               (subst (λ (xs : List Listed). IsReport (place + 1) xs ending [] (Refused (place + 1) cause)) (sym behind_is)
               (inl (record { cause = cause; refused = m.0; nothing = refl; outcome_is = refl })));
-          appended = Gains-trans given_before given given_now so_far.report [] so_far.gained m.1;
+          appended = Gains-trans given_before given given_now so_far.report [] so_far.gained m.1.appended;
         })
     reported_fault ending faults.Write outcome s m =
         subst (ReportMeans items ending (record { given_before = given_before; faults_before = faults_before; given_now = given_now; faults_now = faults_now })) (sym s) (
@@ -119,7 +119,7 @@ module _ (items : List Listed) (place : ℕ) (given_before : Option (List ℕ)) 
         )
     reported_fault ending faults.NoMemory outcome s m =
         subst (ReportMeans items ending (record { given_before = given_before; faults_before = faults_before; given_now = given_now; faults_now = faults_now })) (sym s)
-        (front_given [] (front_nothing (item ∷ drop (place + 1) items)) m)
+        (front_given [] (front_nothing (item ∷ drop (place + 1) items)) m.appended)
 
 -- nothing was given
 pub reported_none : (items : List Listed) (given : Option (List ℕ)) (faults_before faults_now : ℕ)

@@ -140,12 +140,12 @@ module _ (words : List (List ℕ)) (left : Option (List ℕ)) (taken : List ℕ)
   not_built_run job e other = nothing_done NotBuilt (record {
     other = record { job = job; gives = sym e; other = other };
     untouched = record { left = refl; taken = refl; ended = refl; faults = refl };
-    appended = Gains-none given;
+    ungiven = record { appended = Gains-none given; faults = refl };
   })
 
   pub bad_words_run : (fault : WordFault) → Err fault ≡ words_of words → IsRun words untouched ungiven (BadWords fault)
   bad_words_run fault e = nothing_done (BadWords fault) (record {
     faulty = sym e;
     untouched = record { left = refl; taken = refl; ended = refl; faults = refl };
-    appended = Gains-none given;
+    ungiven = record { appended = Gains-none given; faults = refl };
   })

@@ -1,5 +1,5 @@
 -- What a run does. This project's own.
-use Rattle.std.specs.Prelude.{◌≡◌, ℕ, ◌+◌, ◌≤◌, Bool, true, List, [], length, Option, IfSome, Err}
+use Rattle.std.specs.Prelude.{◌≡◌, ℕ, ◌+◌, ◌≤◌, Bool, true, List, length, Option, IfSome, Err}
 use Rattle.std.specs.Io.KnownBytes.{IsAtEnd}
 use Rattle.palp_io.specs.Faults.{Rose}
 use Rattle.palp_io.specs.Source.{Passes}
@@ -9,7 +9,7 @@ use Rattle.palp_words.specs.declared.fault.WordFault.{WordFault}
 use Rattle.palp_input.specs.Grammar.{most_bytes}
 use Rattle.palp_engine.specs.Commands.{AreBuilt, AreUnbuilt}
 use Rattle.palp_engine.specs.Texts.{IsReportOf, IsFrontOf}
-use Rattle.palp_engine.specs.Sessions.{Output}
+use Rattle.palp_engine.specs.Sessions.{Output, GivesNothing}
 use Rattle.palp_engine.specs.declared.outcome.Outcome.{Outcome}
 use Rattle.palp_engine.specs.declared.outcome.Outcome.TheVariants.{Done, BadWords, BadText, Refused, TextLimit, NotBuilt, ReadFault, WriteFault, NoMemory}
 
@@ -54,7 +54,7 @@ PerformedMeans source out Done = IsReadWhole source × IsReported source out Don
 PerformedMeans source out (BadText fault) = IsReported source out (BadText fault)
 PerformedMeans source out (Refused item cause) = IsReported source out (Refused item cause)
 PerformedMeans source out TextLimit = IsReported source out TextLimit
-PerformedMeans source out ReadFault = Rose source.faults_before source.faults_now × Gains out.given_before out.given_now []
+PerformedMeans source out ReadFault = Rose source.faults_before source.faults_now × GivesNothing out
 PerformedMeans source out WriteFault = Rose out.faults_before out.faults_now × IsReportedInPart source out
 PerformedMeans source out NoMemory = IsReportedInPart source out
 PerformedMeans source out other = ⊥
@@ -71,17 +71,17 @@ pub record AreDone (words : List (List ℕ)) (source : Intake) (out : Output) (o
   pub command : AreBuilt words
   pub means : PerformedMeans source out outcome
 
--- the words have this fault. Nothing was read or appended.
+-- The words have this fault. Nothing was read or appended, and the streams are as they were.
 pub record AreBadWords (words : List (List ℕ)) (source : Intake) (out : Output) (fault : WordFault) : Type 0 where
   pub faulty : words_of words ≡ Err fault
   pub untouched : IsUntouched source
-  pub appended : Gains out.given_before out.given_now []
+  pub ungiven : GivesNothing out
 
--- the words give another job. Nothing was read or appended.
+-- The words give another job. Nothing was read or appended, and the streams are as they were.
 pub record AreNotBuilt (words : List (List ℕ)) (source : Intake) (out : Output) : Type 0 where
   pub other : AreUnbuilt words
   pub untouched : IsUntouched source
-  pub appended : Gains out.given_before out.given_now []
+  pub ungiven : GivesNothing out
 
 -- what each outcome means
 abbrev pub Means : List (List ℕ) → Intake → Output → Outcome → Type 0

@@ -31,12 +31,17 @@ pub record FailsPiece (item : Listed) (out : Output) : Type 0 where
   pub is_piece : IsPiece item piece
   pub appended : GainsFront out.given_before out.given_now piece
 
+-- nothing was appended, and the count of faults is as it was
+pub record GivesNothing (out : Output) : Type 0 where
+  pub appended : Gains out.given_before out.given_now []
+  pub faults : out.faults_now ≡ out.faults_before
+
 -- what the answer for an item means: where it is refused, and where memory is wanting, nothing was appended
 abbrev pub ItemMeans : Result (Unit {0}) ItemFault → Listed → Output → Type 0
 ItemMeans (Ok done) item out = GivesPiece item out
-ItemMeans (Err (faults.Refused cause)) item out = IsItemRefused item cause × Gains out.given_before out.given_now []
+ItemMeans (Err (faults.Refused cause)) item out = IsItemRefused item cause × GivesNothing out
 ItemMeans (Err faults.Write) item out = FailsPiece item out
-ItemMeans (Err faults.NoMemory) item out = Gains out.given_before out.given_now []
+ItemMeans (Err faults.NoMemory) item out = GivesNothing out
 
 -- the report of items was appended, whole, and the outcome is the one that it ends with
 pub record GivesReport (items : List Listed) (ending : TextEnd) (out : Output) (outcome : Outcome) : Type 0 where
