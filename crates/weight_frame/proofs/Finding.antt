@@ -116,10 +116,10 @@ combined_more c us j p b s q t h k e f g d = first_terms s q (dot (drop (j + 1) 
 pub combined_all : (c : List ℤ) (us : List (List ℤ)) (j p : ℕ) (s : ℤ) → length c ≤ j → s +ℤ dot (drop j c) (column p (drop j us)) ≡ dot c (column p us) → s ≡ dot c (column p us)
 combined_all c us j p s h d = let d' : s +ℤ pos 0 ≡ dot c (column p us) = rw (drop_all j c h) at d in omega (arith, linear)
 
-pub combined_bound : (s p t : ℤ) (j : ℕ) → t ≡ s +ℤ p → nat_abs s ≤ 2 ^ 100 * j → nat_abs p ≤ 2 ^ 100 → nat_abs t ≤ 2 ^ 100 * (j + 1)
+pub combined_bound : (s p t : ℤ) (j : ℕ) → t ≡ s +ℤ p → nat_abs s ≤ 2 ^ 95 * j → nat_abs p ≤ 2 ^ 95 → nat_abs t ≤ 2 ^ 95 * (j + 1)
 combined_bound s p t j e h k = omega (arith, ints)
 
-pub combined_fits : (s p : ℤ) (j : ℕ) → j < 6 → nat_abs s ≤ 2 ^ 100 * j → nat_abs p ≤ 2 ^ 100 → SFits w128 (s +ℤ p)
+pub combined_fits : (s p : ℤ) (j : ℕ) → j < 6 → nat_abs s ≤ 2 ^ 95 * j → nat_abs p ≤ 2 ^ 95 → SFits w128 (s +ℤ p)
 combined_fits s p j l h k = fits_signed_from_abs w128 (s +ℤ p) (omega (arith, ints))
 
 -- an entry of a vector of the list

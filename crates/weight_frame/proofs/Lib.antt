@@ -17,3 +17,4 @@ pub mod Usable
 pub mod Finding
 pub mod CoordinateAnswers
 pub mod PlainSystems
+pub mod StepBounds

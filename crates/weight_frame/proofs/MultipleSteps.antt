@@ -13,21 +13,21 @@ use Rattle.weight_frame.specs.Frame.{IsSumOfMultiples}
 pub record AreSumsBelow (p : ℤ) (x : List ℤ) (q : ℤ) (y : List ℤ) (i : ℕ) (z : List ℤ) : Type 0 where
   pub length : length z ≡ i
   pub entries : (k : ℕ) → k < i → entry z k ≡ p *ℤ entry x k +ℤ q *ℤ entry y k
-  pub small : All (λ c. nat_abs c ≤ 2 ^ 101) z
+  pub small : All (λ c. nat_abs c ≤ 2 ^ 96) z
 
 -- before the first
 pub sums_none : (p : ℤ) (x : List ℤ) (q : ℤ) (y z : List ℤ) → z ≡ [] → AreSumsBelow p x q y 0 z
 sums_none p x q y z e = record { length = ap length e; entries = λ k h. absurd (omega arith); small = rw e (all_from_each empty) }
 
 -- one more
-pub sums_more : (p : ℤ) (x : List ℤ) (q : ℤ) (y old new : List ℤ) (i : ℕ) (r : ℤ) → AreSumsBelow p x q y i old → new ≡ old ++ (r ∷ []) → r ≡ p *ℤ entry x i +ℤ q *ℤ entry y i → nat_abs r ≤ 2 ^ 101 → AreSumsBelow p x q y (i + 1) new
+pub sums_more : (p : ℤ) (x : List ℤ) (q : ℤ) (y old new : List ℤ) (i : ℕ) (r : ℤ) → AreSumsBelow p x q y i old → new ≡ old ++ (r ∷ []) → r ≡ p *ℤ entry x i +ℤ q *ℤ entry y i → nat_abs r ≤ 2 ^ 96 → AreSumsBelow p x q y (i + 1) new
 sums_more p x q y old new i r h n e s = record {
   length = ap length n ∙ length_push old r ∙ ap (λ (m : ℕ). m + 1) h.length;
   entries = λ k l. ⊎_elim
       (λ (below : k < i). ap (λ (z : List ℤ). entry z k) n ∙ get_or_append_left old (r ∷ []) (pos 0) k (let m = h.length in omega arith) ∙ h.entries k below)
       (λ (above : i ≤ k). let same : k ≡ i = omega arith in rw same (ap (λ (z : List ℤ). entry z i) n ∙ get_or_push old r (pos 0) i h.length ∙ e))
       (cases_lt k i);
-  small = rw n (All-push (λ c. nat_abs c ≤ 2 ^ 101) old r h.small s);
+  small = rw n (All-push (λ c. nat_abs c ≤ 2 ^ 96) old r h.small s);
 }
 
 -- past the end both vectors are 0

@@ -47,7 +47,7 @@ last_above n u v h after g p q s t k told positive are small large = record {
 }
 
 -- none is
-pub later_made : (n : ℕ) (u : List ℤ) (v : ℤ) (h : List ℤ) (after g p : ℕ) (q : ℤ) (s : ℕ) (t : ℤ) (k next : List ℤ) → 0 < after → after < 2 ^ 59 → AreLeastMultipliers v after g p q s t
+pub later_made : (n : ℕ) (u : List ℤ) (v : ℤ) (h : List ℤ) (after g p : ℕ) (q : ℤ) (s : ℕ) (t : ℤ) (k next : List ℤ) → 0 < after → after < 2 ^ 55 → AreLeastMultipliers v after g p q s t
     → IsSmallSum n (pos p) u (neg_ℤ q) h k → IsSmallSum n (pos s) u t h next → IsStep n u v h after (k ∷ []) next g
 later_made n u v h after g p q s t k next positive small are x y = record {
   step = exchanges p q s t positive are x.sum y.sum;
@@ -70,7 +70,7 @@ first_keeps n u v h z k e f within is_zero small = rw f (record {
   small = omega arith;
 })
 
-pub first_takes : (n : ℕ) (u : List ℤ) (v : ℤ) (h next : List ℤ) (g : ℕ) → pos 0 <ℤ v → next ≡ u → nat_abs v < 2 ^ 59 → g ≡ nat_abs v → largest u ≤ entry_limit → IsStep n u v h 0 [] next g
+pub first_takes : (n : ℕ) (u : List ℤ) (v : ℤ) (h next : List ℤ) (g : ℕ) → pos 0 <ℤ v → next ≡ u → nat_abs v < 2 ^ 55 → g ≡ nat_abs v → largest u ≤ entry_limit → IsStep n u v h 0 [] next g
 first_takes n u v h next g p e small f within = rw (e, f) (record {
   step = takes refl p;
   divisor = first_divisor v (nat_abs v) refl;
@@ -79,7 +79,7 @@ first_takes n u v h next g p e small f within = rw (e, f) (record {
   small = small;
 })
 
-pub first_turns : (n : ℕ) (u : List ℤ) (v : ℤ) (h next : List ℤ) (g : ℕ) → v <ℤ pos 0 → next ≡ scaled (negsuc 0) u → nat_abs v < 2 ^ 59 → g ≡ nat_abs v → largest next ≤ entry_limit → IsStep n u v h 0 [] next g
+pub first_turns : (n : ℕ) (u : List ℤ) (v : ℤ) (h next : List ℤ) (g : ℕ) → v <ℤ pos 0 → next ≡ scaled (negsuc 0) u → nat_abs v < 2 ^ 55 → g ≡ nat_abs v → largest next ≤ entry_limit → IsStep n u v h 0 [] next g
 first_turns n u v h next g p e small f within = record {
   step = subst (λ (x : List ℤ). Exchange n u v h 0 g [] x) (sym e) (turns refl p);
   divisor = first_divisor v g (sym f);

@@ -4,15 +4,9 @@ use Rattle.std.proofs.lemmas.List.{get_or-map, take-append-drop, drop_more, take
 use Rattle.std.proofs.lemmas.List.Elements.{All-push}
 use Rattle.std.specs.List.{AllZip}
 use Rattle.std.proofs.lemmas.Slice.Zip.{AllZip-map}
-use Rattle.lattice_theory.proofs.Members.{Each, empty, more, all_from_each}
 use Rattle.lattice_core.specs.declared.weights.WeightSystem.{WeightSystem}
-use Rattle.lattice_core.specs.Weights.{Weighted, weighted, weighted_all, weighted_degree, columns_of, total, IsSummed, AreWellFormed, AreWithinLimits}
+use Rattle.lattice_core.specs.Weights.{Weighted, weighted, weighted_all, weighted_degree, columns_of, IsSummed, AreWellFormed, AreWithinLimits}
 use Rattle.weight_frame.specs.Reached.{IsUsable}
-
--- each number is at most the sum
-each_of_total : (m : ℕ) (ws : List ℕ) → total ws ≤ m → Each (λ w. w ≤ m) ws
-each_of_total m [] h = empty
-each_of_total m (w ∷ ws) h = more (omega arith) (each_of_total m ws (omega arith))
 
 length_map_below : (systems : List WeightSystem) (i : ℕ) → i < length systems → i < length (weighted_all systems)
 length_map_below systems i h = rw (length-map systems weighted) h
@@ -27,7 +21,7 @@ usable_at systems i system h e formed limited =
     let n = columns_of (weighted_all systems) in
     let summed = at_system (IsSummed (columns_of (weighted_all systems))) systems i system h e formed.summed in
     let degree = at_system (λ s. s.degree ≤ 32_767) systems i system h e limited.degrees in
-    record { columns = summed.columns; small = all_from_each {P = λ w. w ≤ 32_767} (each_of_total 32_767 (weighted system).weights (let f = summed.sum in omega arith)) }
+    record { columns = summed.columns; small = let f = summed.sum in omega arith }
 
 -- the systems before, at and behind a place
 pub split_systems : (systems : List WeightSystem) (i : ℕ) (system : WeightSystem) → i < length systems → system ≡ get_or systems i system

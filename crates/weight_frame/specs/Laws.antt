@@ -1,7 +1,9 @@
--- The laws of frames, as statements.
-use Rattle.std.specs.Prelude.{◌≡◌, ℕ, List, ℤ}
-use Rattle.lattice_core.specs.Weights.{Weighted, columns_of, IsInLattice}
-use Rattle.weight_frame.specs.Frame.{IsFrame, IsRecursion, IsIntegerCombination, AreCoordinates}
+-- The laws of frames, as statements. This project's own.
+use Rattle.std.specs.Prelude.{◌≡◌, ℕ, ◌^◌, ◌<◌, List, ◌∷◌, ℤ, pos, ◌+ℤ◌, ◌*ℤ◌, neg_ℤ, nat_abs}
+use Rattle.std.specs.List.{Contains}
+use Rattle.lattice_theory.specs.Vector.{entry}
+use Rattle.lattice_core.specs.Weights.{Weighted, weighted_degree, columns_of, IsInLattice, AreWellFormed, AreWithinLimits}
+use Rattle.weight_frame.specs.Frame.{IsFrame, IsRecursion, IsIntegerCombination, AreCoordinates, IsGreatestDivisor, degrees_of, AreLeastMultipliers, AreWithinEntryLimit}
 
 -- the systems have a frame: the recursion can be carried out
 abbrev pub FrameExists : Type 0
@@ -25,3 +27,25 @@ pub record IsIntegerBasis (systems : List Weighted) (vectors : List (List ℤ)) 
 
 abbrev pub FrameIsBasis : Type 0
 FrameIsBasis = (systems : List Weighted) (vectors : List (List ℤ)) → IsFrame systems vectors → IsIntegerBasis systems vectors
+
+-- the two products of a x + b y, and their sum, are below the bound in size
+pub record IsSumBelow (bound : ℕ) (a x b y : ℤ) : Type 0 where
+  pub left : nat_abs (a *ℤ x) < bound
+  pub right : nat_abs (b *ℤ y) < bound
+  pub sum : nat_abs (a *ℤ x +ℤ b *ℤ y) < bound
+
+-- the numbers of a step at a vector u of value v, with the vector h and the divisor `after` behind: the value and the divisor, the products
+-- and the sum that make the next divisor, and those that make each entry of k and of the next h
+pub record IsStepBelow (bound : ℕ) (u : List ℤ) (v : ℤ) (h : List ℤ) (after p : ℕ) (q : ℤ) (s : ℕ) (t : ℤ) : Type 0 where
+  pub value : nat_abs v < bound
+  pub behind : after < bound
+  pub divisor : IsSumBelow bound (pos s) v t (pos after)
+  pub kept : (j : ℕ) → IsSumBelow bound (pos p) (entry u j) (neg_ℤ q) (entry h j)
+  pub last : (j : ℕ) → IsSumBelow bound (pos s) (entry u j) t (entry h j)
+
+-- a step whose vectors are within the limit has numbers below 2^112 in size
+abbrev pub StepsAreBounded : Type 0
+StepsAreBounded = (systems : List Weighted) (system : Weighted) (u h : List ℤ) (us : List (List ℤ)) (after g p : ℕ) (q : ℤ) (s : ℕ) (t : ℤ)
+    → AreWellFormed systems → AreWithinLimits systems → Contains systems system → AreWithinEntryLimit (u ∷ h ∷ us) → 0 < after
+    → IsGreatestDivisor (degrees_of system us) after → AreLeastMultipliers (weighted_degree system u) after g p q s t
+    → IsStepBelow (2 ^ 112) u (weighted_degree system u) h after p q s t

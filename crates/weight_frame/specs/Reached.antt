@@ -1,8 +1,7 @@
 -- How far the program has come with the recursion. This project's own.
 use Rattle.std.specs.Prelude.{◌≡◌, ℕ, ◌^◌, ◌<◌, ◌≤◌, List, [], ◌∷◌, ◌++◌, length, ℤ, Option, None, Some}
-use Rattle.std.specs.List.{All}
 use Rattle.lattice_theory.specs.Vector.{HaveDimension}
-use Rattle.lattice_core.specs.Weights.{Weighted}
+use Rattle.lattice_core.specs.Weights.{Weighted, total}
 use Rattle.weight_frame.specs.Frame.{IsGreatestDivisor, Exchange, Exchanges, AreExchanged, AreUnitVectors, largest, entry_limit, AreWithinEntryLimit, IsFirstAboveLimit}
 
 -- vectors of n entries within the limit
@@ -21,7 +20,7 @@ pub record IsStep (n : ℕ) (u : List ℤ) (v : ℤ) (h : List ℤ) (after : ℕ
   pub divisor : (values : List ℤ) → IsGreatestDivisor values after → IsGreatestDivisor (v ∷ values) g
   pub kept : AreWithinEntryLimit k
   pub last : largest next ≤ entry_limit
-  pub small : g < 2 ^ 59
+  pub small : g < 2 ^ 55
 
 -- the step at u makes a vector with an entry above the limit
 pub record IsStepAbove (n : ℕ) (u : List ℤ) (v : ℤ) (h : List ℤ) (after told : ℕ) : Type 0 where
@@ -41,7 +40,7 @@ pub record IsReached (n : ℕ) (system : Weighted) (us kept : List (List ℤ)) (
   pub count : length kept ≤ length us
   pub dimension : length last ≡ n
   pub last_within : largest last ≤ entry_limit
-  pub small_divisor : divisor < 2 ^ 59
+  pub small_divisor : divisor < 2 ^ 55
 
 -- what the system makes of the vectors us has a vector above the limit
 pub record IsAbove (n : ℕ) (system : Weighted) (us : List (List ℤ)) (told : ℕ) : Type 0 where
@@ -62,7 +61,7 @@ pub record AreReached (n : ℕ) (systems : List Weighted) (vectors : List (List 
   pub small : AreSmallVectors n vectors
   pub count : length vectors ≤ n
 
--- a system with n weights, none of them above 32,767
+-- a system with n weights, whose sum is at most 32,767
 pub record IsUsable (n : ℕ) (system : Weighted) : Type 0 where
   pub columns : length system.weights ≡ n
-  pub small : All (λ w. w ≤ 32_767) system.weights
+  pub small : total system.weights ≤ 32_767

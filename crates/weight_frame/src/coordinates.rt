@@ -38,7 +38,7 @@ fn combined_entry(coefficients: &[i64], vectors: &[FrameVector], i: usize) -> i1
     requires entries { AreWithinEntryLimit vectors.now }
     requires coefficients { largest coefficients.now ≤ coordinate_limit }
     ensures value { result ≡ dot coefficients.now (map (λ b. entry b i) vectors.now) }
-    ensures bound { nat_abs result ≤ 2 ^ 103 }
+    ensures bound { nat_abs result ≤ 2 ^ 98 }
 {
     let mut sum = 0_i128;
     for j in 0..coefficients.len() {
@@ -74,7 +74,7 @@ fn first_place(x: &[i64]) -> Option<usize>
 
 /// A difference, divided.
 fn quotient_of(a: i64, b: i128, divisor: i64) -> i128
-    requires small { nat_abs b ≤ 2 ^ 103 }
+    requires small { nat_abs b ≤ 2 ^ 98 }
     requires positive { pos 0 <ℤ divisor }
     ensures { result ≡ int_div (a -ℤ b) divisor }
 {

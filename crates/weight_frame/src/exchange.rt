@@ -19,7 +19,7 @@ pub(crate) struct Step {
 fn first_step(u: &FrameVector, value: i64, h: &FrameVector) -> Step
     requires within { largest u.now ≤ entry_limit }
     requires most { length u.now ≤ 12 }
-    requires value { nat_abs value < 2 ^ 59 }
+    requires value { nat_abs value < 2 ^ 55 }
     ensures { IsStep (length u.now) u.now value h.now 0 (listed result.kept) result.last result.divisor }
 {
     if value == 0 {
@@ -48,9 +48,9 @@ fn later_step(u: &FrameVector, value: i64, h: &FrameVector, after: u64) -> Resul
     requires same { length u.now ≡ length h.now }
     requires within { largest u.now ≤ entry_limit }
     requires last_within { largest h.now ≤ entry_limit }
-    requires value { nat_abs value < 2 ^ 59 }
+    requires value { nat_abs value < 2 ^ 55 }
     requires positive { 0 < after }
-    requires small { after < 2 ^ 59 }
+    requires small { after < 2 ^ 55 }
     ensures { MatchResult result
         (λ s. IsStep (length u.now) u.now value h.now after (listed s.kept) s.last s.divisor)
         (IsStepAbove (length u.now) u.now value h.now after) }
@@ -83,8 +83,8 @@ pub(crate) fn stepped(
     requires most { length u.now ≤ 12 }
     requires within { largest u.now ≤ entry_limit }
     requires last_within { largest h.now ≤ entry_limit }
-    requires value { nat_abs value < 2 ^ 59 }
-    requires small { after < 2 ^ 59 }
+    requires value { nat_abs value < 2 ^ 55 }
+    requires small { after < 2 ^ 55 }
     ensures { MatchResult result
         (λ s. IsStep (length u.now) u.now value h.now after (listed s.kept) s.last s.divisor)
         (IsStepAbove (length u.now) u.now value h.now after) }

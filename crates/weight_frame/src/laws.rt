@@ -1,5 +1,5 @@
 //! What holds of frames, as laws.
-ghost use Rattle.weight_frame.specs.Laws.{FrameExists, FrameIsUnique, FrameIsBasis};
+ghost use Rattle.weight_frame.specs.Laws.{FrameExists, FrameIsUnique, FrameIsBasis, StepsAreBounded};
 
 /// The systems have a frame: the recursion can be carried out.
 pub fn frame_exists()
@@ -14,4 +14,10 @@ pub fn frame_is_unique()
 /// Every vector of the weight lattice is exactly one integer combination of the frame, and every such combination is in the lattice.
 pub fn frame_is_basis()
     ensures { FrameIsBasis }
+{}
+
+/// A step of the recursion whose vectors have no entry above 1,099,511,627,776 in size has no number of 2^112 or more in size: neither its
+/// values and divisors, nor the products and sums that make the next divisor and the entries of the next vectors.
+pub fn steps_are_bounded()
+    ensures { StepsAreBounded }
 {}

@@ -15,7 +15,7 @@ mod vector;
 
 pub use coordinates::Coordinates;
 pub use frame::{Frame, FrameFault, frame_of};
-pub use laws::{frame_exists, frame_is_basis, frame_is_unique};
+pub use laws::{frame_exists, frame_is_basis, frame_is_unique, steps_are_bounded};
 
 #[cfg(test)]
 mod tests;

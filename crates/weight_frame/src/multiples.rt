@@ -13,21 +13,21 @@ const ENTRY_LIMIT: u128 = 1_099_511_627_776;
 
 /// The product of a multiplier and an entry.
 pub(crate) fn product(p: i128, a: i64) -> i128
-    requires multiplier { nat_abs p ≤ 2 ^ 60 }
+    requires multiplier { nat_abs p ≤ 2 ^ 55 }
     requires entry { nat_abs a ≤ entry_limit }
     ensures value { result ≡ p *ℤ a }
-    ensures bound { nat_abs result ≤ 2 ^ 100 }
+    ensures bound { nat_abs result ≤ 2 ^ 95 }
 {
     p * i128::from(a)
 }
 
 fn entry_sum(p: i128, a: i64, q: i128, b: i64) -> i128
-    requires first { nat_abs p ≤ 2 ^ 60 }
-    requires second { nat_abs q ≤ 2 ^ 60 }
+    requires first { nat_abs p ≤ 2 ^ 55 }
+    requires second { nat_abs q ≤ 2 ^ 55 }
     requires left { nat_abs a ≤ entry_limit }
     requires right { nat_abs b ≤ entry_limit }
     ensures value { result ≡ p *ℤ a +ℤ q *ℤ b }
-    ensures bound { nat_abs result ≤ 2 ^ 101 }
+    ensures bound { nat_abs result ≤ 2 ^ 96 }
 {
     product(p, a) + product(q, b)
 }
@@ -36,12 +36,12 @@ fn entry_sum(p: i128, a: i64, q: i128, b: i64) -> i128
 fn sum_entries(p: i128, x: &[i64], q: i128, y: &[i64]) -> ArrayVec<i128, 12>
     requires same { length x.now ≡ length y.now }
     requires most { length x.now ≤ 12 }
-    requires first { nat_abs p ≤ 2 ^ 60 }
-    requires second { nat_abs q ≤ 2 ^ 60 }
+    requires first { nat_abs p ≤ 2 ^ 55 }
+    requires second { nat_abs q ≤ 2 ^ 55 }
     requires left { largest x.now ≤ entry_limit }
     requires right { largest y.now ≤ entry_limit }
     ensures sum { IsSumOfMultiples (length x.now) p x.now q y.now result.items }
-    ensures bound { All (λ a. nat_abs a ≤ 2 ^ 101) result.items }
+    ensures bound { All (λ a. nat_abs a ≤ 2 ^ 96) result.items }
 {
     let mut entries = ArrayVec::new();
     for i in 0..x.len() {
@@ -82,8 +82,8 @@ pub(crate) fn sum_of_multiples(
     y: &FrameVector,
 ) -> Result<FrameVector, u128>
     requires same { length x.now ≡ length y.now }
-    requires first { nat_abs p ≤ 2 ^ 60 }
-    requires second { nat_abs q ≤ 2 ^ 60 }
+    requires first { nat_abs p ≤ 2 ^ 55 }
+    requires second { nat_abs q ≤ 2 ^ 55 }
     requires left { largest x.now ≤ entry_limit }
     requires right { largest y.now ≤ entry_limit }
     ensures { MatchResult result (IsSmallSum (length x.now) p x.now q y.now) (IsLargeSum (length x.now) p x.now q y.now) }

@@ -26,10 +26,10 @@ pub(crate) struct Multipliers {
 /// A number congruent to `factor - quotient * other` modulo `after`.
 fn next_factor(factor: u64, quotient: u64, other: u64, after: u64) -> u64
     requires positive { 0 < after }
-    requires quotient { quotient < 2 ^ 63 }
-    requires factor { factor < 2 ^ 63 }
-    requires other { other < 2 ^ 63 }
-    requires after { after < 2 ^ 63 }
+    requires quotient { quotient < 2 ^ 55 }
+    requires factor { factor < 2 ^ 55 }
+    requires other { other < 2 ^ 55 }
+    requires after { after < 2 ^ 55 }
     ensures value { IsCongruent after (pos factor -ℤ pos quotient *ℤ pos other) (pos result) }
     ensures below { result < after }
 {
@@ -41,7 +41,7 @@ fn next_factor(factor: u64, quotient: u64, other: u64, after: u64) -> u64
 /// The greatest common divisor of `r` and `after`, and a multiplier of `r` that makes it modulo `after`.
 fn euclid(r: u64, after: u64) -> Bezout
     requires positive { 0 < after }
-    requires small { after < 2 ^ 59 }
+    requires small { after < 2 ^ 55 }
     requires rest { r < after }
     ensures { IsBezout r after result.divisor result.multiplier }
 {
@@ -66,7 +66,7 @@ fn euclid(r: u64, after: u64) -> Bezout
 /// The rest of a value modulo `after`.
 fn rest_of(value: i64, after: u64) -> u64
     requires positive { 0 < after }
-    requires small { after < 2 ^ 59 }
+    requires small { after < 2 ^ 55 }
     ensures value { pos result ≡ int_rem_euclid value (pos after) }
     ensures below { result < after }
 {
@@ -76,30 +76,40 @@ fn rest_of(value: i64, after: u64) -> u64
 /// The quotient of a value by a divisor.
 fn quotient(value: i64, divisor: u64) -> i64
     requires positive { 0 < divisor }
-    requires small { divisor < 2 ^ 59 }
+    requires small { divisor < 2 ^ 55 }
     ensures { result ≡ int_div value (pos divisor) }
 {
     value / divisor as i64
 }
 
+/// What is left of the divisor beside the first multiple.
+fn left_beside(divisor: u64, first: u64, value: i64) -> i128
+    requires divisor { divisor < 2 ^ 55 }
+    requires first { first < 2 ^ 55 }
+    requires value { nat_abs value < 2 ^ 55 }
+    ensures left { result ≡ pos divisor -ℤ pos first *ℤ value }
+    ensures bound { nat_abs result < 2 ^ 112 }
+{
+    i128::from(divisor) - i128::from(first) * i128::from(value)
+}
+
 /// What is left of the divisor beside the first multiple, divided by `after`.
 fn second_multiplier(divisor: u64, first: u64, value: i64, after: u64) -> i128
     requires positive { 0 < after }
-    requires small { after < 2 ^ 59 }
-    requires divisor { divisor < 2 ^ 59 }
-    requires first { first < 2 ^ 59 }
-    requires value { nat_abs value < 2 ^ 59 }
+    requires small { after < 2 ^ 55 }
+    requires divisor { divisor < 2 ^ 55 }
+    requires first { first < 2 ^ 55 }
+    requires value { nat_abs value < 2 ^ 55 }
     ensures { result ≡ int_div (pos divisor -ℤ pos first *ℤ value) (pos after) }
 {
-    let left = i128::from(divisor) - i128::from(first) * i128::from(value);
-    left / i128::from(after)
+    left_beside(divisor, first, value) / i128::from(after)
 }
 
 /// The least multipliers for a value and the number behind.
 pub(crate) fn least_multipliers(value: i64, after: u64) -> Multipliers
     requires positive { 0 < after }
-    requires small { after < 2 ^ 59 }
-    requires value { nat_abs value < 2 ^ 59 }
+    requires small { after < 2 ^ 55 }
+    requires value { nat_abs value < 2 ^ 55 }
     ensures { AreLeastMultipliers value after result.divisor result.behind result.here result.first result.second }
 {
     let found = euclid(rest_of(value, after), after);

@@ -1,17 +1,17 @@
 //! The values of weight systems at vectors.
-ghost use Rattle.std.specs.Prelude.{◌≡◌, ◌^◌, ◌<◌, ◌≤◌, ◌*ℤ◌, length, map, pos, nat_abs};
-ghost use Rattle.std.specs.List.{All};
+ghost use Rattle.std.specs.Prelude.{◌≡◌, ◌^◌, ◌<◌, ◌≤◌, ◌*◌, ◌*ℤ◌, length, map, pos, nat_abs};
 ghost use Rattle.lattice_theory.specs.Vector.{dot};
+ghost use Rattle.lattice_core.specs.Weights.{total};
 ghost use Rattle.weight_frame.specs.Frame.{largest, entry_limit};
 
 /// The sum of the entries, each times its weight.
 pub(crate) fn weighted_value(weights: &[u64], x: &[i64]) -> i64
     requires same { length weights.now ≡ length x.now }
     requires most { length x.now ≤ 12 }
-    requires weights { All (λ w. w ≤ 32_767) weights.now }
+    requires weights { total weights.now ≤ 32_767 }
     requires entries { largest x.now ≤ entry_limit }
     ensures value { result ≡ dot (map pos weights.now) x.now }
-    ensures bound { nat_abs result < 2 ^ 59 }
+    ensures bound { nat_abs result < 2 ^ 55 }
 {
     let mut sum = 0_i64;
     for i in 0..x.len() {
@@ -24,7 +24,7 @@ fn weighted(weight: u64, entry: i64) -> i64
     requires weight { weight ≤ 32_767 }
     requires entry { nat_abs entry ≤ entry_limit }
     ensures value { result ≡ pos weight *ℤ entry }
-    ensures bound { nat_abs result ≤ 2 ^ 55 }
+    ensures bound { nat_abs result ≤ entry_limit * weight }
 {
     weight as i64 * entry
 }
