@@ -9,27 +9,37 @@ use std::test::Fail;
 /// What a run is given, and what it must answer.
 #[derive(Clone, Copy)]
 pub struct Case {
+    /// The words of the command line.
     pub words: &'static [&'static str],
+    /// The text that the source gives.
     pub text: &'static str,
+    /// All that the run gives to its output.
     pub report: &'static str,
+    /// All that it gives to its notes.
     pub note: &'static str,
+    /// The status that its outcome has.
     pub status: u8,
 }
 
 /// Which calls of the streams fail, counted from 1; 0 is none.
 #[derive(Clone, Copy)]
 pub struct Failing {
+    /// The take of the source.
     pub take: u64,
+    /// The give to the output.
     pub give: u64,
+    /// The give to the notes.
     pub note: u64,
 }
 
+/// No call fails.
 pub const NOTHING: Failing = Failing {
     take: 0,
     give: 0,
     note: 0,
 };
 
+/// This take of the source fails.
 pub fn failing_take(take: u64) -> Failing {
     Failing {
         take,
@@ -38,6 +48,7 @@ pub fn failing_take(take: u64) -> Failing {
     }
 }
 
+/// This give to the output fails.
 pub fn failing_give(give: u64) -> Failing {
     Failing {
         take: 0,
@@ -46,6 +57,7 @@ pub fn failing_give(give: u64) -> Failing {
     }
 }
 
+/// This give to the notes fails.
 pub fn failing_note(note: u64) -> Failing {
     Failing {
         take: 0,
@@ -54,10 +66,13 @@ pub fn failing_note(note: u64) -> Failing {
     }
 }
 
+/// The words of the command that is built.
 pub const PLAIN: &[&str] = &["poly", "-n"];
 
+/// The matrix of a triangle with 11 lattice points.
 pub const TRIANGLE: &str = "3 2\n-1 -1\n3 -1\n-1 2\n";
 
+/// The words as the command line hands them over.
 pub fn words_of(alloc: Global, words: &[&str]) -> Result<Vec<String>, Fail> {
     let mut all = Vec::new(alloc);
     for word in words {
@@ -69,12 +84,16 @@ pub fn words_of(alloc: Global, words: &[&str]) -> Result<Vec<String>, Fail> {
 /// What a run answered.
 #[derive(Drop)]
 pub struct Answer {
+    /// The status of the outcome.
     pub status: u8,
+    /// All that was given to the output.
     pub report: Vec<u8>,
+    /// All that was given to the notes.
     pub note: Vec<u8>,
 }
 
-/// Runs `poly -n` or other words on a text, with so many bytes per take.
+/// Runs the words, fewer than 100, on a text, of which each take gives at most `chunk` bytes, and at least one. The output has room for
+/// 30,000 bytes, and the notes for 1,000.
 pub fn answer_to(
     rt: &(impl Abort + AllocGlobal),
     words: &[&str],
@@ -99,7 +118,7 @@ pub fn answer_to(
     })
 }
 
-/// Whether a run answers what the case says.
+/// Whether a run on takes of at most `chunk` bytes answers what the case says.
 pub fn is_answered(
     rt: &(impl Abort + AllocGlobal),
     case: &Case,
@@ -114,6 +133,7 @@ pub fn is_answered(
     )
 }
 
+/// The case of a text whose report is given whole.
 pub fn done(text: &'static str, report: &'static str) -> Case {
     Case {
         words: PLAIN,
@@ -124,12 +144,11 @@ pub fn done(text: &'static str, report: &'static str) -> Case {
     }
 }
 
+/// Whether runs answer what each case says, on takes of one byte and of at most 7 bytes.
 pub fn are_answered(rt: &(impl Abort + AllocGlobal), cases: &[Case]) -> Result<bool, Fail> {
     for case in cases {
-        for chunk in [1, 7] {
-            if !is_answered(rt, case, chunk, NOTHING)? {
-                return Ok(false);
-            }
+        if !is_answered(rt, case, 1, NOTHING)? || !is_answered(rt, case, 7, NOTHING)? {
+            return Ok(false);
         }
     }
     Ok(true)

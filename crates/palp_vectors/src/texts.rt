@@ -175,6 +175,7 @@ fn large_headers_are_refused(rt: HostRuntime) -> Result<(), Fail> {
     }
     let answer = answer_to(&rt, PLAIN, &text, 4096, NOTHING)?;
     assert_eq!(rt; answer.status, 4);
+    assert!(rt; answer.report.is_empty());
     assert!(rt; answer.note.as_slice() == b"palp: item 1: limit Input: 16385\n".as_slice());
     Ok(())
 }
@@ -218,6 +219,23 @@ fn items_before_a_refusal_are_reported(rt: HostRuntime) -> Result<(), Fail> {
     assert_eq!(rt; answer.status, 4);
     assert!(rt; answer.report == report);
     assert!(rt; answer.note.as_slice() == b"palp: item 10: flat: 1 0\n".as_slice());
+    Ok(())
+}
+
+#[test]
+fn items_before_the_text_limit_are_reported(rt: HostRuntime) -> Result<(), Fail> {
+    let blanks = [b' '; 4096];
+    let mut text = Vec::with_capacity(rt.alloc(), 67_108_865)?;
+    text.extend_from_slice(b"3 1 1 1\n")?;
+    for _ in 0..16_383 {
+        text.extend_from_slice(&blanks)?;
+    }
+    text.extend_from_slice(&blanks[..4089])?;
+    assert_eq!(rt; text.len(), 67_108_865);
+    let answer = answer_to(&rt, PLAIN, &text, 4096, NOTHING)?;
+    assert_eq!(rt; answer.status, 5);
+    assert!(rt; answer.report.as_slice() == b"3 1 1 1 M:10 3 F:3\n".as_slice());
+    assert!(rt; answer.note.as_slice() == b"palp: text limit\n".as_slice());
     Ok(())
 }
 
