@@ -1,10 +1,12 @@
-//! The report of one item.
+//! The report of one item and of several, and a whole run.
 
 ghost use Rattle.std.specs.Prelude.{IfOk};
 ghost use Rattle.palp_input.specs.Grammar.{listed};
 ghost use Rattle.palp_input.specs.Laws.{IsItem};
 
+use crate::reading::read_all;
 use crate::{ItemFault, Outcome, Session, report_item, run};
+use lattice_core::Refusal;
 use palp_input::{Item, Matrix};
 use palp_io::{MemSink, MemSource};
 use palp_words::{Job, PolyFlags};
@@ -34,6 +36,23 @@ fn triangle(alloc: Global) -> Result<Item, Fail>
         columns: 2,
         entries,
     }))
+}
+
+#[test]
+fn reports_an_item_behind_a_refused_one(rt: HostRuntime) -> Result<(), Fail> {
+    let alloc = rt.alloc();
+    let text = Vec::from_slice(alloc, b"3 2\n0 0\n1 1\n2 2\n3 1 1 1\n")?;
+    let mut source = MemSource::new(text, 7, Vec::new(alloc));
+    let reading = read_all(alloc, &mut source).expect(&rt, "a text that is read");
+    assert_eq!(rt; reading.items.len(), 2);
+    let mut session = Session::open(alloc)?;
+    let mut out = MemSink::new(alloc, 100, Vec::new(alloc))?;
+    let refused = report_item(&mut session, &PLAIN, &reading.items[0], &mut out);
+    assert!(rt; matches!(refused, Err(ItemFault::Refused(Refusal::Flat(_)))));
+    assert!(rt; out.given().is_empty());
+    assert!(rt; report_item(&mut session, &PLAIN, &reading.items[1], &mut out) == Ok(()));
+    assert!(rt; out.given() == b"3 1 1 1 M:10 3 F:3\n".as_slice());
+    Ok(())
 }
 
 #[test]
