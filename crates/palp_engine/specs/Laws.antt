@@ -1,4 +1,5 @@
--- What is said of points, of items and of texts is said once: the laws of this crate, as statements.
+-- What is said of points, of items and of texts is said once: the laws of this crate, as statements. This project's
+-- own.
 use Rattle.std.specs.Prelude.{◌≡◌, ℕ, ◌<◌, List, ◌++◌, ℤ, length}
 use Rattle.lattice_core.specs.declared.faults.Refusal.{Refusal}
 use Rattle.palp_input.specs.Grammar.{Listed}

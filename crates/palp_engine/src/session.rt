@@ -60,7 +60,7 @@ impl Model for Session {
 }
 
 impl Session {
-    /// A session that has reported nothing.
+    /// A session that has reported nothing. `NoMemory` comes where its page finds no memory.
     pub fn open(alloc: Global) -> Result<Session, NoMemory> {
         Ok(Session {
             alloc,
@@ -131,16 +131,18 @@ fn write_piece(alloc: Global, page: &mut Vec<u8>, item: &Item) -> Result<(), Fau
 }
 
 /// Gives the piece of one item to `out`: for a weight line its numbers, then the numbers of lattice points, vertices and facets. The job
-/// is `poly` with `-n` alone, and the item is one of a text. It is refused exactly by its first cause. `Write` comes only where the count
-/// of faults of `out` rose in this call, and then a front of the piece was appended; otherwise nothing is. After every answer the session
-/// serves a next item.
+/// is `poly` with `-n` alone, and the item is one of a text. After every answer the session serves a next item.
+///
+/// `Ok` appends the piece, whole. `Refused` comes exactly where the item is refused, and tells its first cause; nothing is appended, and the
+/// count of faults of `out` is as it was. So it is with `NoMemory`, which comes where the item's points, its facets or its piece find no
+/// memory. `Write` comes only where the count of faults of `out` rose in this call; a front of the piece was appended.
 pub fn report_item<O: Sink>(
     session: &mut Session,
-    _job: &Job,
+    job: &Job,
     item: &Item,
     out: &mut O,
 ) -> Result<(), ItemFault>
-    requires job { IsBuilt _job.now }
+    requires job { IsBuilt job.now }
     requires item { IsItem (listed item.now) }
     ensures { ItemMeans result (listed item.now) (record {
       given_before = O.given out.old;

@@ -1,4 +1,5 @@
 -- Tests, which compute, of systems that are well formed and within the limits; the crate's own tests are stated with them.
+-- This project's own.
 use Rattle.std.specs.Prelude.{ℕ, ◌==◌, Bool, true, ◌&&◌, nat_lt, List, [], ◌∷◌, length}
 use Rattle.lattice_core.specs.Weights.{total}
 

@@ -55,19 +55,24 @@ fn later_step(u: &FrameVector, value: i64, h: &FrameVector, after: u64) -> Resul
         (λ s. IsStep (length u.now) u.now value h.now after (listed s.kept) s.last s.divisor)
         (IsStepAbove (length u.now) u.now value h.now after) }
 {
-    let m = least_multipliers(value, after);
-    let kept = match sum_of_multiples(i128::from(m.behind), u, opposite_number(m.here), h) {
+    let multipliers = least_multipliers(value, after);
+    let kept = match sum_of_multiples(
+        i128::from(multipliers.behind),
+        u,
+        opposite_number(multipliers.here),
+        h,
+    ) {
         Ok(kept) => kept,
         Err(told) => return Err(told),
     };
-    let last = match sum_of_multiples(i128::from(m.first), u, m.second, h) {
+    let last = match sum_of_multiples(i128::from(multipliers.first), u, multipliers.second, h) {
         Ok(last) => last,
         Err(told) => return Err(told),
     };
     Ok(Step {
         kept: Some(kept),
         last,
-        divisor: m.divisor,
+        divisor: multipliers.divisor,
     })
 }
 

@@ -79,7 +79,7 @@ fn copied_systems(alloc: Global, systems: &[WeightSystem]) -> Result<Vec<WeightS
 
 /// The frame of the weight lattice of well-formed systems within the limits. It is refused exactly where a vector of the recursion has an entry
 /// above 1,099,511,627,776 in size (the largest absolute value of the first such vector is told), and then exactly where the frame has no vector
-/// or more than 6 (their number is told).
+/// or more than 6 (their number is told). `NoMemory` comes where the copy of the systems that the frame holds finds no memory.
 pub fn frame_of(alloc: Global, systems: &[WeightSystem]) -> Result<Frame, FrameFault>
     requires formed { AreWellFormed (weighted_all systems.now) }
     requires limited { AreWithinLimits (weighted_all systems.now) }
@@ -142,7 +142,8 @@ impl Frame {
         answer(&self.systems, self.vectors.as_slice(), x)
     }
 
-    /// Writes the sum of the frame's vectors, each times its coordinate, all of which are at most 1,073,741,824 in size.
+    /// Writes the sum of the frame's vectors, each times its coordinate. `y` has as many coordinates as the frame has vectors, each at most
+    /// 1,073,741,824 in size, and `out` has room for as many entries as a vector has.
     pub fn from_frame(&self, y: &Point, out: &mut [i128])
         requires dimension { length y.now ≡ length self.now.vectors }
         requires columns { length out.old ≡ columns_of self.now.systems }

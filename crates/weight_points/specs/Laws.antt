@@ -1,4 +1,4 @@
--- The laws of this crate: what its public function without parameters states.
+-- The laws of this crate: what its public function without parameters states. This project's own.
 use Rattle.std.specs.Prelude.{ℕ, ◌+◌, List, [], ◌∷◌, ◌++◌, ℤ}
 use Rattle.lattice_core.specs.Weights.{Weighted, AreWellFormed, AreWithinLimits}
 use Rattle.weight_points.specs.Members.{AreMonomials, IsMonomialAt, HasMonomials, AreFirst}

@@ -9,11 +9,11 @@ use Rattle.weight_frame.proofs.exchange.later_step.Goals as goal
 
 pub sum_of_multiples-requires-clause-second : goal.sum_of_multiples-requires-clause-second
 sum_of_multiples-requires-clause-second c =
-    let m = c.least_multipliers-m.result in
+    let m = c.least_multipliers-multipliers.result in
     let v : SFits w64 c.args.value = c.ranges.value in
     let here : SFits w64 m.here = search rules in
     let second : SFits w128 m.second = search rules in
-    let are : AreLeastMultipliers c.args.value c.args.after m.divisor m.behind m.here m.first m.second = simp to_z-of_z at c.least_multipliers-m.ensures in
+    let are : AreLeastMultipliers c.args.value c.args.after m.divisor m.behind m.here m.first m.second = simp to_z-of_z at c.least_multipliers-multipliers.ensures in
     let small = multipliers_small c.args.value c.args.after m.divisor m.behind m.here m.first m.second c.requires.positive are in
     let size = c.requires.value in
     let turned : c.opposite_number.result ≡ neg_ℤ m.here = simp to_z-of_z at c.opposite_number.ensures in
@@ -24,11 +24,11 @@ sum_of_multiples-requires-clause-second c =
 
 pub sum_of_multiples-requires-2-clause-first : goal.sum_of_multiples-requires-2-clause-first
 sum_of_multiples-requires-2-clause-first c =
-    let m = c.least_multipliers-m.result in
+    let m = c.least_multipliers-multipliers.result in
     let v : SFits w64 c.args.value = c.ranges.value in
     let here : SFits w64 m.here = search rules in
     let second : SFits w128 m.second = search rules in
-    let are : AreLeastMultipliers c.args.value c.args.after m.divisor m.behind m.here m.first m.second = simp to_z-of_z at c.least_multipliers-m.ensures in
+    let are : AreLeastMultipliers c.args.value c.args.after m.divisor m.behind m.here m.first m.second = simp to_z-of_z at c.least_multipliers-multipliers.ensures in
     let small = multipliers_small c.args.value c.args.after m.divisor m.behind m.here m.first m.second c.requires.positive are in
     let size = c.requires.value in
     let first : SFits w128 c.from-2.result = search rules in
@@ -37,11 +37,11 @@ sum_of_multiples-requires-2-clause-first c =
 
 pub sum_of_multiples-requires-2-clause-second : goal.sum_of_multiples-requires-2-clause-second
 sum_of_multiples-requires-2-clause-second c =
-    let m = c.least_multipliers-m.result in
+    let m = c.least_multipliers-multipliers.result in
     let v : SFits w64 c.args.value = c.ranges.value in
     let here : SFits w64 m.here = search rules in
     let second : SFits w128 m.second = search rules in
-    let are : AreLeastMultipliers c.args.value c.args.after m.divisor m.behind m.here m.first m.second = simp to_z-of_z at c.least_multipliers-m.ensures in
+    let are : AreLeastMultipliers c.args.value c.args.after m.divisor m.behind m.here m.first m.second = simp to_z-of_z at c.least_multipliers-multipliers.ensures in
     let small = multipliers_small c.args.value c.args.after m.divisor m.behind m.here m.first m.second c.requires.positive are in
     let size = c.requires.value in
     let second_small = small.second in
@@ -49,11 +49,11 @@ sum_of_multiples-requires-2-clause-second c =
 
 pub returns-in-Err : goal.returns-in-Err
 returns-in-Err c =
-    let m = c.least_multipliers-m.result in
+    let m = c.least_multipliers-multipliers.result in
     let v : SFits w64 c.args.value = c.ranges.value in
     let here : SFits w64 m.here = search rules in
     let second : SFits w128 m.second = search rules in
-    let are : AreLeastMultipliers c.args.value c.args.after m.divisor m.behind m.here m.first m.second = simp to_z-of_z at c.least_multipliers-m.ensures in
+    let are : AreLeastMultipliers c.args.value c.args.after m.divisor m.behind m.here m.first m.second = simp to_z-of_z at c.least_multipliers-multipliers.ensures in
     let turned : c.opposite_number.result ≡ neg_ℤ m.here = simp to_z-of_z at c.opposite_number.ensures in
     let opposite : SFits w128 c.opposite_number.result = search rules in
     let first : SFits w128 c.from.result = search rules in
@@ -62,11 +62,11 @@ returns-in-Err c =
 
 pub returns-in-Err-sum_of_multiples : goal.returns-in-Err-sum_of_multiples
 returns-in-Err-sum_of_multiples c =
-    let m = c.least_multipliers-m.result in
+    let m = c.least_multipliers-multipliers.result in
     let v : SFits w64 c.args.value = c.ranges.value in
     let here : SFits w64 m.here = search rules in
     let second : SFits w128 m.second = search rules in
-    let are : AreLeastMultipliers c.args.value c.args.after m.divisor m.behind m.here m.first m.second = simp to_z-of_z at c.least_multipliers-m.ensures in
+    let are : AreLeastMultipliers c.args.value c.args.after m.divisor m.behind m.here m.first m.second = simp to_z-of_z at c.least_multipliers-multipliers.ensures in
     let turned : c.opposite_number.result ≡ neg_ℤ m.here = simp to_z-of_z at c.opposite_number.ensures in
     let opposite : SFits w128 c.opposite_number.result = search rules in
     let first : SFits w128 c.from.result = search rules in
@@ -77,11 +77,11 @@ returns-in-Err-sum_of_multiples c =
 
 pub returns : goal.returns
 returns c =
-    let m = c.least_multipliers-m.result in
+    let m = c.least_multipliers-multipliers.result in
     let v : SFits w64 c.args.value = c.ranges.value in
     let here : SFits w64 m.here = search rules in
     let second : SFits w128 m.second = search rules in
-    let are : AreLeastMultipliers c.args.value c.args.after m.divisor m.behind m.here m.first m.second = simp to_z-of_z at c.least_multipliers-m.ensures in
+    let are : AreLeastMultipliers c.args.value c.args.after m.divisor m.behind m.here m.first m.second = simp to_z-of_z at c.least_multipliers-multipliers.ensures in
     let turned : c.opposite_number.result ≡ neg_ℤ m.here = simp to_z-of_z at c.opposite_number.ensures in
     let opposite : SFits w128 c.opposite_number.result = search rules in
     let first : SFits w128 c.from.result = search rules in

@@ -11,7 +11,7 @@ returns c =
     let y : SFits w128 c.from-2.result = search rules in
     let z : SFits w128 c.from-3.result = search rules in
     let left = left_exact (pos c.args.divisor) (pos c.args.first) c.args.value c.from.result c.from-2.result c.from-3.result
-        c.from.ensures c.from-2.ensures (simp to_z-of_z at c.from-3.ensures) (omega arith) (omega arith) (omega arith) in
+    c.from.ensures c.from-2.ensures (simp to_z-of_z at c.from-3.ensures) (omega arith) (omega arith) (omega arith) in
     record {
       left = simp to_z-of_z left;
       bound = simp to_z-of_z (rw left (left_small (pos c.args.divisor) (pos c.args.first) c.args.value (omega arith) (omega arith) (omega arith)));
