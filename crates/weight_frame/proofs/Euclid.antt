@@ -15,38 +15,20 @@ use Rattle.weight_frame.specs.Euclid.{IsCongruent, IsBezout}
 use Rattle.weight_frame.proofs.Bounds.{product_bound}
 use Rattle.weight_frame.proofs.Divisors.{greatest_more, least_combination, pos_product, negative_rest}
 
--- the step of a factor
-step_integer : (f o r a m t T S : ℤ) → o ≡ t *ℤ a +ℤ T → S ≡ f +ℤ (a -ℤ T) → S ≡ m *ℤ a +ℤ r → (m -ℤ t -ℤ pos 1) *ℤ a ≡ (f -ℤ o) -ℤ r
-step_integer f o r a m t T S h k l =
-    let h' = simp products_out at h in
-    let l' = simp products_out at l in
-    simp products_out (omega (arith, linear))
-
+-- a division with its rest
 pub split_natural : (a b q r : ℕ) → a ≡ q * b + r → pos a ≡ pos q *ℤ pos b +ℤ pos r
 split_natural a b q r e = omega (arith, ints)
 
-whole_natural : (f a T S : ℕ) → T ≤ a → S ≡ f + (a - T) → pos S ≡ pos f +ℤ (pos a -ℤ pos T)
-whole_natural f a T S h e = omega (arith, ints)
-
-step_number : (f q o a t T m S r : ℕ) → q * o ≡ t * a + T → T ≤ a → S ≡ f + (a - T) → S ≡ m * a + r → (pos m -ℤ pos t -ℤ pos 1) *ℤ pos a ≡ (pos f -ℤ pos q *ℤ pos o) -ℤ pos r
-step_number f q o a t T m S r h k l n = step_integer (pos f) (pos q *ℤ pos o) (pos r) (pos a) (pos m) (pos t) (pos T) (pos S) (split_natural (q * o) a t T h) (whole_natural f a T S k l) (split_natural S a m r n)
-
-pub factor_step : (f q o a r : ℕ) → 0 < a → r ≡ (f + (a - (q * o) % a)) % a → IsCongruent a (pos f -ℤ pos q *ℤ pos o) (pos r)
-factor_step f q o a r h e =
-    let T = (q * o) % a in
-    let S = f + (a - T) in
-    (pos (S / a) -ℤ pos (q * o / a) -ℤ pos 1, step_number f q o a (q * o / a) T (S / a) S r (omega arith) (omega arith) (omega arith) (omega arith))
-
 -- the two congruences go on
-pub congruent_step : (a : ℕ) (r f l n g s q : ℤ) (h : ℤ) → g ≡ q *ℤ s +ℤ h → IsCongruent a (f *ℤ r) g → IsCongruent a (l *ℤ r) s → IsCongruent a (f -ℤ q *ℤ l) n → IsCongruent a (n *ℤ r) h
-congruent_step a r f l n g s q h e (x, ex) (y, ey) (z, ez) = (x -ℤ q *ℤ y -ℤ z *ℤ r, congruent_numbers (pos a) r f l n g s q h x y z e ex ey ez)
+pub congruent_step : (a : ℕ) (r f l n g s q h : ℤ) → g ≡ q *ℤ s +ℤ h → n ≡ f -ℤ q *ℤ l → IsCongruent a (f *ℤ r) g → IsCongruent a (l *ℤ r) s → IsCongruent a (n *ℤ r) h
+congruent_step a r f l n g s q h e en (x, ex) (y, ey) = (x -ℤ q *ℤ y, congruent_numbers (pos a) r f l n g s q h x y e en ex ey)
   where
-    congruent_numbers : (a r f l n g s q h x y z : ℤ) → g ≡ q *ℤ s +ℤ h → x *ℤ a ≡ f *ℤ r -ℤ g → y *ℤ a ≡ l *ℤ r -ℤ s → z *ℤ a ≡ (f -ℤ q *ℤ l) -ℤ n → (x -ℤ q *ℤ y -ℤ z *ℤ r) *ℤ a ≡ n *ℤ r -ℤ h
-    congruent_numbers a r f l n g s q h x y z e ex ey ez =
+    congruent_numbers : (a r f l n g s q h x y : ℤ) → g ≡ q *ℤ s +ℤ h → n ≡ f -ℤ q *ℤ l → x *ℤ a ≡ f *ℤ r -ℤ g → y *ℤ a ≡ l *ℤ r -ℤ s → (x -ℤ q *ℤ y) *ℤ a ≡ n *ℤ r -ℤ h
+    congruent_numbers a r f l n g s q h x y e en ex ey =
         let e' = simp products_out at e in
+        let en' = simp products_out at (ap (λ (w : ℤ). w *ℤ r) en) in
         let ex' = simp products_out at ex in
         let ey' = simp products_out at (ap (λ (w : ℤ). q *ℤ w) ey) in
-        let ez' = simp products_out at (ap (λ (w : ℤ). w *ℤ r) ez) in
         simp products_out (omega (arith, linear))
 
 -- at the start
@@ -95,43 +77,45 @@ second_from s v t a g l e f = let f' = *ℤ_comm t a ∙ f ∙ e in omega (arith
 divides_value : (d after r : ℕ) (v k : ℤ) → v ≡ k *ℤ pos after +ℤ pos r → d ∣ after → d ∣ r → DividesInteger d v
 divides_value d after r v k e h i = subst (DividesInteger d) (sym e) (divides_sum d (k *ℤ pos after) (pos r) (divides_multiple d k (pos after) (divides_natural d after h)) (divides_natural d r i))
 
-pub multipliers_found : (v : ℤ) (r after d m : ℕ) → 0 < after → pos r ≡ int_rem_euclid v (pos after) → IsBezout r after d m
-    → AreLeastMultipliers v after d (after / d) (int_div v (pos d)) (m % (after / d)) (int_div (pos d -ℤ pos (m % (after / d)) *ℤ v) (pos after))
-multipliers_found v r after d m h er found =
+pub multipliers_found : (v : ℤ) (r after d : ℕ) (m : ℤ) (s : ℕ) → 0 < after → pos r ≡ int_rem_euclid v (pos after) → IsBezout r after d m
+    → pos s ≡ int_rem_euclid m (pos (after / d)) → s < after / d → AreLeastMultipliers v after d (after / d) (int_div v (pos d)) s (int_div (pos d -ℤ pos s *ℤ v) (pos after))
+multipliers_found v r after d m s h er found es below =
     let k = rest_is v after h in
     let ev : v ≡ k.0 *ℤ pos after +ℤ pos r = rw er k.1 in
     let p = after / d in
-    let s = m % p in
     let behind : p * d ≡ after = div-mul_cancel d found.greatest.0 in
     let divides = divides_value d after r v k.0 ev found.greatest.0 found.greatest.1 in
     let here : int_div v (pos d) *ℤ pos d ≡ v = *ℤ_comm (int_div v (pos d)) (pos d) ∙ exact_quotient v d (natural_divides d v divides) in
     let y = found.congruent in
-    let t = neg_ℤ (pos m *ℤ k.0 +ℤ y.0) in
-    let some = value_combination v (pos after) k.0 (pos r) (pos m) (pos d) y.0 ev y.1 in
-    let positive = positive_part p d after h behind in
-    let least = least_combination v (pos after) (pos d) (pos p) (int_div v (pos d)) (pos s) t (pos (m / p)) (pos m) (pos_product p d after behind) here (sym (split_natural m p (m / p) s (omega arith))) some in
+    let t = neg_ℤ (m *ℤ k.0 +ℤ y.0) in
+    let some = value_combination v (pos after) k.0 (pos r) m (pos d) y.0 ev y.1 in
+    let l = rest_is m p (positive_part p d after h behind) in
+    let em : m ≡ l.0 *ℤ pos p +ℤ pos s = rw es l.1 in
+    let least = least_combination v (pos after) (pos d) (pos p) (int_div v (pos d)) (pos s) t l.0 m (pos_product p d after behind) here (sym em) some in
     let left = pos d -ℤ pos s *ℤ v in
-    let exact = exact_quotient left after (natural_divides after left (_, what_is_left (pos s) v (t +ℤ pos (m / p) *ℤ int_div v (pos d)) (pos after) (pos d) least)) in
-    record { behind = behind; here = here; combination = second_from (pos s) v (int_div left (pos after)) (pos after) (pos d) left refl exact; least = omega arith }
+    let exact = exact_quotient left after (natural_divides after left (_, what_is_left (pos s) v (t +ℤ l.0 *ℤ int_div v (pos d)) (pos after) (pos d) least)) in
+    record { behind = behind; here = here; combination = second_from (pos s) v (int_div left (pos after)) (pos after) (pos d) left refl exact; least = below }
 
 -- the divisor and its quotient aren't 0, and the divisor is small
 divisor_below : (d after : ℕ) → 0 < after → d ∣ after → d ≤ after
 divisor_below d after h k = le_of_dvd h k
 
-pub found_positive : (r after d m : ℕ) → 0 < after → IsBezout r after d m → (0 < d) × (d ≤ after)
+pub found_positive : (r after d : ℕ) (m : ℤ) → 0 < after → IsBezout r after d m → (0 < d) × (d ≤ after)
 found_positive r after d m h found = (positive_divisor d after h found.greatest.0, divisor_below d after h found.greatest.0)
 
-pub found_part : (r after d m : ℕ) → 0 < after → IsBezout r after d m → 0 < after / d
+pub found_part : (r after d : ℕ) (m : ℤ) → 0 < after → IsBezout r after d m → 0 < after / d
 found_part r after d m h found = positive_part (after / d) d after h (div-mul_cancel d found.greatest.0)
 
-pub small_factor : (p d after : ℕ) → 0 < d → p * d ≡ after → p ≤ after
-small_factor p (suc d) after h e = omega arith
-small_factor p zero after h e = absurd (omega arith)
+pub small_part : (p d n : ℕ) → 0 < d → p * d ≤ n → p ≤ n
+small_part p (suc d) n h e = omega arith
+small_part p zero n h e = absurd (omega arith)
 
-pub found_first : (r after d m : ℕ) → 0 < after → IsBezout r after d m → m % (after / d) < after
-found_first r after d m h found =
+pub small_factor : (p d after : ℕ) → 0 < d → p * d ≡ after → p ≤ after
+small_factor p d after h e = small_part p d after h (omega arith)
+
+pub found_first : (r after d : ℕ) (m : ℤ) (s : ℕ) → 0 < after → IsBezout r after d m → s < after / d → s < after
+found_first r after d m s h found below =
     let p = after / d in
-    let positive = found_part r after d m h found in
     let small : p ≤ after = small_factor p d after (found_positive r after d m h found).0 (div-mul_cancel d found.greatest.0) in
     omega arith
 

@@ -9,6 +9,7 @@ pub mod Frames
 pub mod Largest
 pub mod MultipleSteps
 pub mod Euclid
+pub mod Factors
 pub mod Bounds
 pub mod ValueSteps
 pub mod StepAnswers

@@ -8,6 +8,6 @@ abbrev pub IsCongruent : ℕ → ℤ → ℤ → Type 0
 IsCongruent modulus a b = DividesInteger modulus (a -ℤ b)
 
 -- the divisor is the greatest common divisor of r and the modulus, and r times the multiplier is congruent to it
-pub record IsBezout (r modulus divisor multiplier : ℕ) : Type 0 where
+pub record IsBezout (r modulus divisor : ℕ) (multiplier : ℤ) : Type 0 where
   pub greatest : IsGcd modulus r divisor
-  pub congruent : IsCongruent modulus (pos multiplier *ℤ pos r) (pos divisor)
+  pub congruent : IsCongruent modulus (multiplier *ℤ pos r) (pos divisor)

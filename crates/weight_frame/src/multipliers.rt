@@ -5,11 +5,11 @@ ghost use Rattle.std.specs.Int.RustNames.{int_div};
 ghost use Rattle.weight_frame.specs.Frame.{AreLeastMultipliers};
 ghost use Rattle.weight_frame.specs.Euclid.{IsCongruent, IsBezout};
 
-/// The greatest common divisor of two numbers and a multiplier of the first, below the second.
+/// The greatest common divisor of two numbers and a multiplier of the first.
 #[derive(Drop)]
 struct Bezout {
     divisor: u64,
-    multiplier: u64,
+    multiplier: i64,
 }
 
 /// The greatest common divisor of a value and the number behind, the quotients of the two by it, and the least multipliers with which it is
@@ -23,19 +23,14 @@ pub(crate) struct Multipliers {
     pub(crate) second: i128,
 }
 
-/// A number congruent to `factor - quotient * other` modulo `after`.
-fn next_factor(factor: u64, quotient: u64, other: u64, after: u64) -> u64
-    requires positive { 0 < after }
+/// The factor of the rest of a division.
+fn next_factor(greater_factor: i64, quotient: u64, lesser_factor: i64) -> i64
     requires quotient { quotient < 2 ^ 55 }
-    requires factor { factor < 2 ^ 55 }
-    requires other { other < 2 ^ 55 }
-    requires after { after < 2 ^ 55 }
-    ensures value { IsCongruent after (pos factor -ℤ pos quotient *ℤ pos other) (pos result) }
-    ensures below { result < after }
+    requires greater { nat_abs greater_factor < 2 ^ 55 }
+    requires taken { quotient * nat_abs lesser_factor < 2 ^ 55 }
+    ensures { result ≡ greater_factor -ℤ pos quotient *ℤ lesser_factor }
 {
-    let taken = u128::from(quotient) * u128::from(other) % u128::from(after);
-    let left = u128::from(factor) + (u128::from(after) - taken);
-    (left % u128::from(after)) as u64
+    greater_factor - quotient as i64 * lesser_factor
 }
 
 /// The greatest common divisor of `r` and `after`, and a multiplier of `r` that makes it modulo `after`.
@@ -46,11 +41,11 @@ fn euclid(r: u64, after: u64) -> Bezout
     ensures { IsBezout r after result.divisor result.multiplier }
 {
     let mut greater = after;
-    let mut greater_factor = 0_u64;
+    let mut greater_factor = 0_i64;
     let mut lesser = r;
-    let mut lesser_factor = 1_u64;
+    let mut lesser_factor = 1_i64;
     while lesser != 0 {
-        let factor = next_factor(greater_factor, greater / lesser, lesser_factor, after);
+        let factor = next_factor(greater_factor, greater / lesser, lesser_factor);
         let rest = greater % lesser;
         greater = lesser;
         greater_factor = lesser_factor;
@@ -114,7 +109,7 @@ pub(crate) fn least_multipliers(value: i64, after: u64) -> Multipliers
 {
     let found = euclid(rest_of(value, after), after);
     let behind = after / found.divisor;
-    let first = found.multiplier % behind;
+    let first = rest_of(found.multiplier, behind);
     Multipliers {
         divisor: found.divisor,
         behind,

@@ -1,6 +1,13 @@
-use Rattle.std.proofs.Common.{refl}
-use Rattle.weight_frame.proofs.Euclid.{factor_step}
+use Rattle.std.proofs.Common.{◌≡◌, ◌*◌, ◌-ℤ◌, ◌*ℤ◌, pos, nat_abs, to_z, SFits, w64, arith}
+use Rattle.std.proofs.lemmas.Int.{ints, to_z-of_z, to_z_pos, unsigned_abs-mul, fits_signed_from_abs}
 use Rattle.weight_frame.proofs.multipliers.next_factor.Goals as goal
 
-pub returns-clause-value : goal.returns-clause-value
-returns-clause-value c = rw (c.from.ensures, c.from-2.ensures, c.from-3.ensures, c.from-4.ensures, c.from-5.ensures, c.from-6.ensures) (factor_step c.args.factor c.args.quotient c.args.other c.args.after _ c.requires.positive refl)
+pub returns : goal.returns
+returns c =
+    let f : SFits w64 c.args.greater_factor = c.ranges.greater_factor in
+    let x : SFits w64 c.args.lesser_factor = c.ranges.lesser_factor in
+    let quotient : to_z w64 c.args.quotient ≡ pos c.args.quotient = to_z_pos w64 c.args.quotient (omega arith) in
+    let size : nat_abs (pos c.args.quotient *ℤ c.args.lesser_factor) ≡ c.args.quotient * nat_abs c.args.lesser_factor = unsigned_abs-mul (pos c.args.quotient) c.args.lesser_factor in
+    let product : SFits w64 (pos c.args.quotient *ℤ c.args.lesser_factor) = fits_signed_from_abs w64 _ (omega arith) in
+    let whole : SFits w64 (c.args.greater_factor -ℤ pos c.args.quotient *ℤ c.args.lesser_factor) = fits_signed_from_abs w64 _ (omega (arith, ints)) in
+    simp (to_z-of_z, quotient)
