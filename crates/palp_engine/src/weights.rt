@@ -12,16 +12,13 @@ ghost use Rattle.weight_frame.specs.Answers.{IsHandedOut};
 use lattice_core::{Fault, LimitName, Point, Refusal, WeightSystem};
 use std::alloc::Global;
 use weight_frame::{Coordinates, Frame, FrameFault, frame_of};
-use weight_points::Monomials;
+use weight_points::{MOST_DEGREE, Monomials};
 
 /// The most systems of a weight line that isn't refused.
 const MOST_SYSTEMS: usize = 6;
 
 /// The most weights of a system.
 const MOST_WEIGHTS: usize = 12;
-
-/// The largest degree.
-const MOST_DEGREE: u64 = 32_767;
 
 /// The largest product of all degrees.
 const MOST_DEGREE_PRODUCT: u128 = 1_099_511_627_776;

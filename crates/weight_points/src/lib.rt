@@ -15,3 +15,4 @@ mod search;
 
 pub use laws::given_vectors_are_all;
 pub use monomials::{Monomials, count_to};
+pub use rows::MOST_DEGREE;

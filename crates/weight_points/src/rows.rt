@@ -9,8 +9,8 @@ use crate::reaches::reaches_of;
 use lattice_core::{NoMemory, WeightSystem};
 use std::alloc::Global;
 
-/// The greatest degree of a weight system.
-const MOST_DEGREE: u64 = 32_767;
+/// The greatest degree of a weight system within the limits. This project's own.
+pub const MOST_DEGREE: u64 = 32_767;
 
 /// A weight system beside exponents.
 #[derive(Drop)]
