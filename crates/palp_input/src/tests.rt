@@ -220,26 +220,20 @@ fn gives_weights_and_matrices(rt: HostRuntime) -> Result<(), Fail> {
     };
     let weights = Item::Weights(vec![in alloc; first, second]?);
     assert_eq!(rt; reader.next_item(&mut source), Ok(Some(weights)));
-    let matrix = Matrix {
+    let matrix = Item::Points(Matrix {
         lines: 2,
         columns: 3,
         entries: vec![in alloc; -1, 0, 12, 7, 8, 0]?,
-    };
+    });
     assert!(rt; reader.is_live());
-    assert_eq!(rt;
-        reader.next_item(&mut source),
-        Ok(Some(Item::Points(matrix)))
-    );
-    let empty = Matrix {
+    assert_eq!(rt; reader.next_item(&mut source), Ok(Some(matrix)));
+    let empty = Item::Points(Matrix {
         lines: 1,
         columns: 0,
         entries: Vec::new(alloc),
-    };
+    });
     assert!(rt; reader.is_live());
-    assert_eq!(rt;
-        reader.next_item(&mut source),
-        Ok(Some(Item::Points(empty)))
-    );
+    assert_eq!(rt; reader.next_item(&mut source), Ok(Some(empty)));
     assert!(rt; reader.is_live());
     assert_eq!(rt; reader.next_item(&mut source), Ok(None));
     assert!(rt; !reader.is_live());
