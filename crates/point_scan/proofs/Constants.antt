@@ -22,9 +22,9 @@ constant_small (suc k) points f solid few small facet =
     let (on, count, inside, vanishes, determined) = facet_by_points_lem (suc k) points solid f facet in
     let heavy = point_weight_lem (suc k) points solid.dimension in
     let dimensions : HaveDimension (suc k) on = All-weaker (Contains on) (λ p. length p ≡ suc k)
-        (λ p c. All-contains (λ q. length q ≡ suc k) points p solid.dimension (inside p c)) on (All-contains_itself on) in
+    (λ p c. All-contains (λ q. length q ≡ suc k) points p solid.dimension (inside p c)) on (All-contains_itself on) in
     let light : All (λ p. weight p ≤ size_limit_of (suc k)) on = All-weaker (Contains on) (λ p. weight p ≤ size_limit_of (suc k))
-        (λ p c. let w = All-contains (λ q. weight q ≤ size (suc k) points) points p heavy (inside p c) in omega arith) on (All-contains_itself on) in
+    (λ p c. let w = All-contains (λ q. weight q ≤ size (suc k) points) points p heavy (inside p c) in omega arith) on (All-contains_itself on) in
     let by : IsFixedBy (suc k) on f = record { dimension = facet.dimension; primitive = facet.primitive; vanishes = vanishes; determined = determined } in
     let fits = functions_fit_lem k (size_limit_of (suc k)) on f (limit_positive (suc k) (omega arith) few) (omega arith) count dimensions light by in
     omega (arith, fits.1)
