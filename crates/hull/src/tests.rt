@@ -97,7 +97,7 @@ fn finds_facets_and_vertices_in_order(rt: HostRuntime) -> Result<(), Fail> {
 }
 
 #[test]
-fn finds_hulls_in_more_dimensions(rt: HostRuntime) -> Result<(), Fail> {
+fn finds_a_hull_in_space(rt: HostRuntime) -> Result<(), Fail> {
     assert!(rt;
         has_hull(
             rt.alloc(),
@@ -121,6 +121,11 @@ fn finds_hulls_in_more_dimensions(rt: HostRuntime) -> Result<(), Fail> {
             &[&[0, 0, 0], &[0, 0, 1], &[0, 1, 0], &[1, 0, 0], &[1, 1, 0]]
         )?
     );
+    Ok(())
+}
+
+#[test]
+fn finds_a_simplex_in_dimension_four(rt: HostRuntime) -> Result<(), Fail> {
     assert!(rt;
         has_hull(
             rt.alloc(),
