@@ -8,7 +8,7 @@ use std::test::Fail;
 
 /// What a run is given, and what it must answer.
 #[derive(Clone, Copy)]
-pub struct Case {
+pub(crate) struct Case {
     /// The words of the command line.
     pub words: &'static [&'static str],
     /// The text that the source gives.
@@ -23,7 +23,7 @@ pub struct Case {
 
 /// Which calls of the streams fail, counted from 1; 0 is none.
 #[derive(Clone, Copy)]
-pub struct Failing {
+pub(crate) struct Failing {
     /// The take of the source.
     pub take: u64,
     /// The give to the output.
@@ -33,14 +33,14 @@ pub struct Failing {
 }
 
 /// No call fails.
-pub const NOTHING: Failing = Failing {
+pub(crate) const NOTHING: Failing = Failing {
     take: 0,
     give: 0,
     note: 0,
 };
 
 /// This take of the source fails.
-pub fn failing_take(take: u64) -> Failing {
+pub(crate) fn failing_take(take: u64) -> Failing {
     Failing {
         take,
         give: 0,
@@ -49,7 +49,7 @@ pub fn failing_take(take: u64) -> Failing {
 }
 
 /// This give to the output fails.
-pub fn failing_give(give: u64) -> Failing {
+pub(crate) fn failing_give(give: u64) -> Failing {
     Failing {
         take: 0,
         give,
@@ -58,7 +58,7 @@ pub fn failing_give(give: u64) -> Failing {
 }
 
 /// This give to the notes fails.
-pub fn failing_note(note: u64) -> Failing {
+pub(crate) fn failing_note(note: u64) -> Failing {
     Failing {
         take: 0,
         give: 0,
@@ -67,13 +67,13 @@ pub fn failing_note(note: u64) -> Failing {
 }
 
 /// The words of the command that is built.
-pub const PLAIN: &[&str] = &["poly", "-n"];
+pub(crate) const PLAIN: &[&str] = &["poly", "-n"];
 
 /// The matrix of a triangle with 11 lattice points.
-pub const TRIANGLE: &str = "3 2\n-1 -1\n3 -1\n-1 2\n";
+pub(crate) const TRIANGLE: &str = "3 2\n-1 -1\n3 -1\n-1 2\n";
 
 /// The words as the command line hands them over.
-pub fn words_of(alloc: Global, words: &[&str]) -> Result<Vec<String>, Fail> {
+pub(crate) fn words_of(alloc: Global, words: &[&str]) -> Result<Vec<String>, Fail> {
     let mut all = Vec::new(alloc);
     for word in words {
         all.push(String::from_str(alloc, word)?)?;
@@ -83,7 +83,7 @@ pub fn words_of(alloc: Global, words: &[&str]) -> Result<Vec<String>, Fail> {
 
 /// What a run answered.
 #[derive(Drop)]
-pub struct Answer {
+pub(crate) struct Answer {
     /// The status of the outcome.
     pub status: u8,
     /// All that was given to the output.
@@ -94,7 +94,7 @@ pub struct Answer {
 
 /// Runs the words, fewer than 100, on a text, of which each take gives at most `chunk` bytes, and at least one. The output has room for
 /// 30,000 bytes, and the notes for 1,000.
-pub fn answer_to(
+pub(crate) fn answer_to(
     rt: &(impl Abort + AllocGlobal),
     words: &[&str],
     text: &[u8],
@@ -119,7 +119,7 @@ pub fn answer_to(
 }
 
 /// Whether a run on takes of at most `chunk` bytes answers what the case says.
-pub fn is_answered(
+pub(crate) fn is_answered(
     rt: &(impl Abort + AllocGlobal),
     case: &Case,
     chunk: usize,
@@ -134,7 +134,7 @@ pub fn is_answered(
 }
 
 /// The case of a text whose report is given whole.
-pub fn done(text: &'static str, report: &'static str) -> Case {
+pub(crate) fn done(text: &'static str, report: &'static str) -> Case {
     Case {
         words: PLAIN,
         text,
@@ -145,7 +145,7 @@ pub fn done(text: &'static str, report: &'static str) -> Case {
 }
 
 /// Whether runs answer what each case says, on takes of one byte and of at most 7 bytes.
-pub fn are_answered(rt: &(impl Abort + AllocGlobal), cases: &[Case]) -> Result<bool, Fail> {
+pub(crate) fn are_answered(rt: &(impl Abort + AllocGlobal), cases: &[Case]) -> Result<bool, Fail> {
     for case in cases {
         if !is_answered(rt, case, 1, NOTHING)? || !is_answered(rt, case, 7, NOTHING)? {
             return Ok(false);

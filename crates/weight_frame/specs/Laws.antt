@@ -43,7 +43,7 @@ pub record IsStepBelow (bound : ℕ) (u : List ℤ) (v : ℤ) (h : List ℤ) (af
   pub kept : (j : ℕ) → IsSumBelow bound (pos p) (entry u j) (neg_ℤ q) (entry h j)
   pub last : (j : ℕ) → IsSumBelow bound (pos s) (entry u j) t (entry h j)
 
--- a step whose vectors are within the limit has numbers below 2^112 in size
+-- a step that exchanges, with vectors within the limit, has numbers below 2^112 in size
 abbrev pub StepsAreBounded : Type 0
 StepsAreBounded = (systems : List Weighted) (system : Weighted) (u h : List ℤ) (us : List (List ℤ)) (after g p : ℕ) (q : ℤ) (s : ℕ) (t : ℤ)
     → AreWellFormed systems → AreWithinLimits systems → Contains systems system → AreWithinEntryLimit (u ∷ h ∷ us) → 0 < after

@@ -16,8 +16,9 @@ pub fn frame_is_basis()
     ensures { FrameIsBasis }
 {}
 
-/// A step of the recursion whose vectors have no entry above 1,099,511,627,776 in size has no number of 2^112 or more in size: neither its
-/// values and divisors, nor the products and sums that make the next divisor and the entries of the next vectors.
+/// A step of the recursion that exchanges vectors, since the divisor behind it isn't 0, has no number of 2^112 or more in size where its vectors
+/// have no entry above 1,099,511,627,776 in size: neither its value and divisor, nor the products and sums that make the next divisor and the
+/// entries of the next vectors.
 pub fn steps_are_bounded()
     ensures { StepsAreBounded }
 {}
