@@ -31,15 +31,15 @@ degree_is (w ∷ weights) [] = refl
 degree_is (w ∷ weights) (x ∷ a) = let r = degree_is weights a in rw r (omega (arith, ints))
 
 -- vectors without negative entries are exponents
-record IsNatural (x : List ℤ) : Type 0 where
-  exponents : List ℕ
-  is : map pos exponents ≡ x
+pub record IsNatural (x : List ℤ) : Type 0 where
+  pub exponents : List ℕ
+  pub is : map pos exponents ≡ x
 
 natural_entry : (e : ℤ) → pos 0 ≤ℤ e → (n : ℕ) × (pos n ≡ e)
 natural_entry (pos n) h = (n, refl)
 natural_entry (negsuc n) h = absurd (omega (arith, ints))
 
-natural : (x : List ℤ) → All (λ e. pos 0 ≤ℤ e) x → IsNatural x
+pub natural : (x : List ℤ) → All (λ e. pos 0 ≤ℤ e) x → IsNatural x
 natural [] h = record { exponents = []; is = refl }
 natural (e ∷ x) h =
     let first = natural_entry e (All-head (λ (e : ℤ). pos 0 ≤ℤ e) e x h) in

@@ -6,6 +6,7 @@ pub mod Writing
 pub mod Advancing
 pub mod Grids
 pub mod Integral
+pub mod Entries
 pub mod Positions
 pub mod Walks
 pub mod Collecting

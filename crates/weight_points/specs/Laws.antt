@@ -1,6 +1,7 @@
 -- The laws of this crate: what its public function without parameters states. This project's own.
-use Rattle.std.specs.Prelude.{ℕ, ◌+◌, List, [], ◌∷◌, ◌++◌, ℤ}
-use Rattle.lattice_core.specs.Weights.{Weighted, AreWellFormed, AreWithinLimits}
+use Rattle.std.specs.Prelude.{ℕ, ◌+◌, List, [], ◌∷◌, ◌++◌, ℤ, pos, ◌≤ℤ◌}
+use Rattle.std.specs.List.{All}
+use Rattle.lattice_core.specs.Weights.{Weighted, IsMonomial, AreWellFormed, AreWithinLimits}
 use Rattle.weight_points.specs.Members.{AreMonomials, IsMonomialAt, HasMonomials, AreFirst}
 
 -- at the start nothing is given
@@ -16,3 +17,8 @@ FirstAndNextAreFirst = (systems : List Weighted) (count : ℕ) (xs : List (List 
 abbrev pub FirstAreAll : Type 0
 FirstAreAll = (systems : List Weighted) (count : ℕ) (xs : List (List ℤ))
     → AreFirst systems count xs → HasMonomials systems count → AreMonomials systems xs
+
+-- each entry of an exponent vector is from 0 to 32,767, the greatest degree
+abbrev pub ExponentsAreSmall : Type 0
+ExponentsAreSmall = (systems : List Weighted) (a : List ℤ) → AreWellFormed systems → AreWithinLimits systems → IsMonomial systems a
+    → All (λ e. (pos 0 ≤ℤ e) × (e ≤ℤ pos 32_767)) a

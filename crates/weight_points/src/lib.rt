@@ -13,6 +13,6 @@ mod reaches;
 mod rows;
 mod search;
 
-pub use laws::given_vectors_are_all;
+pub use laws::{exponents_are_small, given_vectors_are_all};
 pub use monomials::{Monomials, count_to};
 pub use rows::MOST_DEGREE;
