@@ -1,10 +1,11 @@
 //! A hull that grows point by point.
 
-ghost use Rattle.std.specs.Prelude.{◌≡◌, ◌+◌, ◌<◌, ◌≤◌, List, [], ◌∷◌, ◌++◌, length, IfOk, OnOk, IfErr, OnErr};
+ghost use Rattle.std.specs.Prelude.{◌≡◌, ◌+◌, ◌<◌, ◌≤◌, List, [], ◌∷◌, ◌++◌, length, Err, IfOk, OnOk, IfErr, OnErr};
 ghost use Rattle.lattice_theory.specs.Vector.{HaveDimension};
 ghost use Rattle.lattice_theory.specs.Facet.{IsFlat};
 ghost use Rattle.lattice_core.specs.Dimensions.{dimension_of};
 ghost use Rattle.lattice_core.specs.Limits.{IsSized};
+ghost use Rattle.lattice_core.specs.declared.faults.Fault.TheVariants as Fault;
 ghost use Rattle.hull.specs.Faults.{IsStartFault, IsInsertFault};
 ghost use Rattle.hull.specs.Built.{HasFacets};
 
@@ -46,7 +47,8 @@ fn copied_points(alloc: Global, points: &[Point]) -> Result<Vec<Point>, NoMemory
 
 impl HullBuilder {
     /// The hull of the first points, of which there is one more than coordinates. Refused are points whose size is above the limit of their
-    /// dimension (the size is told), and then flat ones (with their flat function). Without memory for the points and facets it is `NoMemory`.
+    /// dimension (the size is told), and then flat ones (with their flat function); neither needs memory. Without memory for the points and
+    /// facets it is `NoMemory`.
     pub fn start(alloc: Global, points: &[Point]) -> Result<HullBuilder, Fault>
         requires one_dimension { HaveDimension (dimension_of points.now) points.now }
         requires count { length points.now ≡ dimension_of points.now + 1 }
@@ -55,6 +57,7 @@ impl HullBuilder {
         ensures within { OnOk result (IsSized (dimension_of points.now) points.now) }
         ensures solid { OnOk result (IsFlat (dimension_of points.now) points.now → ⊥) }
         ensures refused { IfErr result (IsStartFault (dimension_of points.now) points.now) }
+        ensures no_memory { result ≡ Err Fault.NoMemory → IsSized (dimension_of points.now) points.now × (IsFlat (dimension_of points.now) points.now → ⊥) }
     {
         solid(points)?;
         let facets = all_facets(alloc, points)?;

@@ -1,6 +1,7 @@
 //! The facets of points.
 
-ghost use Rattle.std.specs.Prelude.{◌≡◌, ◌<◌, ◌≤◌, length, IfOk, OnOk, IfErr};
+ghost use Rattle.std.specs.Prelude.{◌≡◌, ◌<◌, ◌≤◌, length, Err, IfOk, OnOk, IfErr};
+ghost use Rattle.lattice_core.specs.declared.faults.Fault.TheVariants as Fault;
 ghost use Rattle.std.specs.List.{All};
 ghost use Rattle.lattice_theory.specs.Vector.{HaveDimension};
 ghost use Rattle.lattice_theory.specs.Size.{size};
@@ -73,7 +74,8 @@ pub(crate) fn solid(points: &[Point]) -> Result<(), Refusal>
 
 /// All facets of points with 1 to 6 coordinates, each once, ordered by normal and then by constant. There is at least one point; points may
 /// repeat. Refused are, in this order, points whose size is above the limit of their dimension (the size is told), flat points (with their flat
-/// function), and points with more than 128 facets (their number is told). Without memory for the facets it is `NoMemory`. For the points' size
+/// function), and points with more than 128 facets (their number is told). Without memory for the facets it is `NoMemory`; the first two
+/// refusals need none. For the points' size
 /// S, a facet's normal has entries of at most (2S)^(n-1), and its constant is at most (2S)^(n-1) S. Source: math/0204356, section 2.
 pub fn facets_of(alloc: Global, points: &[Point]) -> Result<Vec<Functional>, Fault>
     requires some { 0 < length points.now }
@@ -84,6 +86,7 @@ pub fn facets_of(alloc: Global, points: &[Point]) -> Result<Vec<Functional>, Fau
     ensures few { IfOk result (λ fs. length fs.items ≤ facet_limit) }
     ensures bounded { IfOk result (λ fs. All (IsWithin (dimension_of points.now) (size (dimension_of points.now) points.now)) fs.items) }
     ensures refused { IfErr result (IsFacetsFault (dimension_of points.now) points.now) }
+    ensures no_memory { result ≡ Err Fault.NoMemory → IsSized (dimension_of points.now) points.now × (IsFlat (dimension_of points.now) points.now → ⊥) }
 {
     solid(points)?;
     let facets = all_facets(alloc, points)?;
