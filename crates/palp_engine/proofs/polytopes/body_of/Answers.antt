@@ -41,7 +41,7 @@ returns-then-count-gt-MOST_POINTS c =
     let vertices = c.in_ok-vertices.vertices.items in
     let solid : AreSolid (dimension_of points) points = record { coordinates = omega (arith, c.requires.least); dimension = c.requires.one_dimension; solid = c.in_ok-facets.ensures.solid } in
     let counts = counts_lattice (dimension_of points) points vertices 16384 c.in_ok-count.count solid c.requires.some c.in_ok-vertices.ensures.vertices
-    (rw c.as_slice-2.ensures.value at c.in_ok-count.ensures.counts) in
+    (rw c.as_slice-2.ensures.value at c.in_ok-count.ensures) in
     let all : ArePassed (dimension_of points) points c.in_ok-facets.facets.items vertices = record {
       dimension = c.requires.most;
       small = c.in_ok-facets.ensures.within;
@@ -60,7 +60,7 @@ returns c =
     let vertices = c.in_ok-vertices.vertices.items in
     let solid : AreSolid (dimension_of points) points = record { coordinates = omega (arith, c.requires.least); dimension = c.requires.one_dimension; solid = c.in_ok-facets.ensures.solid } in
     let counts = counts_lattice (dimension_of points) points vertices 16384 c.in_ok-count.count solid c.requires.some c.in_ok-vertices.ensures.vertices
-    (rw c.as_slice-2.ensures.value at c.in_ok-count.ensures.counts) in
+    (rw c.as_slice-2.ensures.value at c.in_ok-count.ensures) in
     let vertex_count : c.len.result ≡ length vertices = search rules in
     let facet_count : c.len-2.result ≡ length facets = search rules in
     few_counted (dimension_of points) points facets vertices c.in_ok-count.count c.body_line.result.items (record {

@@ -42,8 +42,8 @@ ruled_out-requires-clause-small_low c = low_small (dimension_of c.args.vertices.
 pub ruled_out-requires-clause-small_high : goal.ruled_out-requires-clause-small_high
 ruled_out-requires-clause-small_high c = high_small (dimension_of c.args.vertices.now) c.args.vertices.now c.args.dilate c.loop-kept.walk.low.items c.loop-kept.walk.high.items c.requires.dilate c.requires.within c.loop-kept.invariant.corners
 
-pub returns-else-count-limit-clause-counts : goal.returns-else-count-limit-clause-counts
-returns-else-count-limit-clause-counts c =
+pub returns-else-count-limit : goal.returns-else-count-limit
+returns-else-count-limit c =
     let vertices = c.args.vertices.now in
     let n = dimension_of vertices in
     let test = is_inside c.args.facets.now c.args.dilate in
@@ -102,15 +102,15 @@ ready c =
           }
     ]
 
-pub returns-then-not-advance-clause-counts : goal.returns-then-not-advance-clause-counts
-returns-then-not-advance-clause-counts c =
+pub returns-then-not-advance : goal.returns-then-not-advance
+returns-then-not-advance c =
     let vertices = c.args.vertices.now in
     let n = dimension_of vertices in
     let test = is_inside c.args.facets.now c.args.dilate in
     let low = c.match-ruled_out.walk.low.items in
     let high = c.match-ruled_out.walk.high.items in
     let position = c.match-ruled_out.walk.position.items in
-    let known = ready (goal.at.returns-then-not-advance-clause-counts c).After-advance in
+    let known = ready (goal.at.returns-then-not-advance c).After-advance in
     let solid : AreSolid n vertices = record { coordinates = c.start-walk.ensures.least; dimension = c.requires.dimension; solid = c.requires.solid } in
     let step : Advances low high position c.advance.new.self.position.items false = subst (Advances low high position c.advance.new.self.position.items) c.if-not-advance.true c.advance.ensures.step in
     let all = ap length (finished test low high position c.advance.new.self.position.items known.found known.past step) in
