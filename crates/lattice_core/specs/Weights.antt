@@ -1,8 +1,9 @@
 -- Weight systems, the lattice on which they vanish, and their exponent vectors (math/0204356: weight systems, combined weight systems and
 -- their monomials). The limits are this project's own.
-use Rattle.std.specs.Prelude.{◌≡◌, ℕ, ◌+◌, ◌*◌, ◌^◌, ◌<◌, ◌≤◌, List, [], ◌∷◌, length, map, ℤ, pos, ◌-ℤ◌, ◌≤ℤ◌, slice_index_or}
+use Rattle.std.specs.Prelude.{◌≡◌, ℕ, ◌+◌, ◌*◌, ◌<◌, ◌≤◌, List, [], ◌∷◌, length, map, ℤ, pos, ◌-ℤ◌, ◌≤ℤ◌, slice_index_or}
 use Rattle.std.specs.List.{All, Contains}
 use Rattle.lattice_theory.specs.Vector.{dot}
+use Rattle.lattice_core.specs.declared.limits.TheConstants.{MOST_SYSTEMS, MOST_WEIGHTS, MOST_DEGREE, MOST_DEGREE_PRODUCT}
 use Rattle.lattice_core.specs.declared.weights.WeightSystem.{WeightSystem}
 
 -- a degree and a list of weights: what contracts see of a weight system
@@ -69,9 +70,9 @@ pub record AreWellFormed (systems : List Weighted) : Type 0 where
   pub summed : All (IsSummed (columns_of systems)) systems
   pub used : (place : ℕ) → place < columns_of systems → HasWeightAt systems place
 
--- at most 6 systems of at most 12 weights, degrees of at most 32,767, and a product of all degrees of at most 2^40
+-- no more systems, weights of each, and degrees than the limits, and no larger product of all degrees
 pub record AreWithinLimits (systems : List Weighted) : Type 0 where
-  pub few : length systems ≤ 6
-  pub weights : columns_of systems ≤ 12
-  pub degrees : All (λ s. s.degree ≤ 32_767) systems
-  pub product : degree_product systems ≤ 2 ^ 40
+  pub few : length systems ≤ MOST_SYSTEMS
+  pub weights : columns_of systems ≤ MOST_WEIGHTS
+  pub degrees : All (λ s. s.degree ≤ MOST_DEGREE) systems
+  pub product : degree_product systems ≤ MOST_DEGREE_PRODUCT

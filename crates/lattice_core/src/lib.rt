@@ -22,7 +22,11 @@ pub use divisors::{gcd, primitive};
 pub use entries::narrowed;
 pub use faults::{Fault, LimitName, NoMemory, Refusal};
 pub use functional::Functional;
-pub use limits::size_limit;
+pub use limits::{
+    MOST_COORDINATE, MOST_COORDINATES, MOST_DEGREE, MOST_DEGREE_PRODUCT, MOST_FACETS,
+    MOST_FRAME_ENTRY, MOST_MONOMIALS, MOST_NUMBERS, MOST_POINTS, MOST_SYSTEMS, MOST_VERTICES,
+    MOST_WEIGHTS, size_limit,
+};
 pub use pairing::pair;
 pub use point::Point;
 pub use sizes::size_of;

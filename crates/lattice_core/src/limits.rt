@@ -1,6 +1,42 @@
-//! Limits.
+//! The limits of an item. This project's own.
 ghost use Rattle.std.specs.Prelude.{◌≡◌, ◌≤◌, pos};
 ghost use Rattle.lattice_core.specs.Limits.{size_limit_of};
+
+/// The most weight systems of a weight line.
+pub const MOST_SYSTEMS: usize = 6;
+
+/// The most weights of a weight system.
+pub const MOST_WEIGHTS: usize = 12;
+
+/// The largest degree of a weight system.
+pub const MOST_DEGREE: u64 = 32_767;
+
+/// The largest product of all degrees of a weight line: 2^40.
+pub const MOST_DEGREE_PRODUCT: u128 = 1_099_511_627_776;
+
+/// The largest absolute value of an entry of the vectors that the recursion of a weight lattice's frame makes: 2^40.
+pub const MOST_FRAME_ENTRY: u128 = 1_099_511_627_776;
+
+/// The largest absolute value of a coordinate of a point in a frame: 2^30.
+pub const MOST_COORDINATE: u128 = 1_073_741_824;
+
+/// The most coordinates of a point: the largest dimension. The least is 1.
+pub const MOST_COORDINATES: usize = 6;
+
+/// The largest number of a matrix's header: the most lines, and the most columns.
+pub const MOST_NUMBERS: u64 = 16_384;
+
+/// The most exponent vectors of weight systems.
+pub const MOST_MONOMIALS: usize = 16_384;
+
+/// The most facets of a hull.
+pub const MOST_FACETS: usize = 128;
+
+/// The most vertices of a hull.
+pub const MOST_VERTICES: usize = 128;
+
+/// The most lattice points of a hull.
+pub const MOST_POINTS: usize = 16_384;
 
 /// The largest size that points with `n` coordinates may have, `n` from 1 to 6. The size is the sum over the coordinates of the largest absolute
 /// value. This project's own.
