@@ -3,6 +3,10 @@ pub mod Orders
 pub mod Members
 pub mod Unique
 pub mod Sublists
+pub mod GridLists
+pub mod LexPlaces
+pub mod LexWalks
+pub mod BoxSteps
 pub mod Sizes
 pub mod Divisors
 pub mod ExampleSteps

@@ -5,5 +5,6 @@ pub mod Size
 pub mod Hull
 pub mod Facet
 pub mod Points
+pub mod Grid
 pub mod Laws
 pub mod Examples
