@@ -14,12 +14,12 @@ use Rattle.lattice_theory.proofs.Members.{Each, more, In, here, there, each_from
 use Rattle.elimination.proofs.Divisibility.{primitive_same}
 use Rattle.hull.specs.Differences.{difference}
 use Rattle.std.specs.Prelude.{nat_abs, ◌*◌, ◌^◌}
-use Rattle.lattice_theory.specs.Size.{weight}
+use Rattle.lattice_theory.specs.Size.{absolute_sum}
 use Rattle.lattice_core.specs.Limits.{size_limit_of, IsSized}
 use Rattle.hull.specs.Kernels.{IsPrimitiveKernel, IsSmallKernel}
 use Rattle.hull.proofs.Kernels.{member_entries}
 use Rattle.hull.specs.Search.{IsFrom, IsKernelOfPoints, IsReached, AddsFacets, IsSupporting, AddsEach}
-use Rattle.hull.proofs.Vectors.{zero_difference, same_pairings, both_vanish, vanishes_too, weight-difference, points_small, multiple_from_normals}
+use Rattle.hull.proofs.Vectors.{zero_difference, same_pairings, both_vanish, vanishes_too, absolute_sum-difference, points_small, multiple_from_normals}
 use Rattle.hull.proofs.AffineFunctions.{vanishes_at, opposite_value, opposite_primitive, opposite_multiple, only_member}
 
 -- a combination of members that pair to 0 with a vector pairs to 0 with it
@@ -264,17 +264,17 @@ pub small_of_points : (points : List (List ℤ)) (first : List ℤ) (ks : List M
 small_of_points points first ks d s c k = record {
   vectors = k.vectors;
   is_kernel = k.is_kernel;
-  small = All-weaker (Contains k.vectors) (λ v. weight v ≤ 2 * size_limit_of (length first)) small k.vectors (All-contains_itself k.vectors);
+  small = All-weaker (Contains k.vectors) (λ v. absolute_sum v ≤ 2 * size_limit_of (length first)) small k.vectors (All-contains_itself k.vectors);
 }
   where
-    all : All (λ p. weight p ≤ size_limit_of (length first)) points
+    all : All (λ p. absolute_sum p ≤ size_limit_of (length first)) points
     all = points_small (length first) points d s
 
-    small : (v : List ℤ) → Contains k.vectors v → weight v ≤ 2 * size_limit_of (length first)
+    small : (v : List ℤ) → Contains k.vectors v → absolute_sum v ≤ 2 * size_limit_of (length first)
     small v m =
         let o = k.from_points v m in
-        rw o.same (weight-difference o.point first (size_limit_of (length first)) (All-contains (λ p. length p ≡ length first) points o.point d o.is_point)
-        (All-contains (λ p. weight p ≤ size_limit_of (length first)) points o.point all o.is_point) (All-contains (λ p. weight p ≤ size_limit_of (length first)) points first all c))
+        rw o.same (absolute_sum-difference o.point first (size_limit_of (length first)) (All-contains (λ p. length p ≡ length first) points o.point d o.is_point)
+        (All-contains (λ p. absolute_sum p ≤ size_limit_of (length first)) points o.point all o.is_point) (All-contains (λ p. absolute_sum p ≤ size_limit_of (length first)) points first all c))
 
 -- the entries of its one member
 pub leaf_entries : (points : List (List ℤ)) (first : List ℤ) (k : Member) → 1 ≤ length first → length first ≤ 6 → HaveDimension (length first) points → IsSized (length first) points → Contains points first → IsKernelOfPoints (length first) points first (k ∷ []) → All (λ a. nat_abs a < 2 ^ 63) k.vector

@@ -5,7 +5,7 @@ use Rattle.std.specs.List.{AllZip}
 use Rattle.std.proofs.lemmas.List.Elements.{All-contains, All-weaker, All-contains_itself, All-append, length_all_zip}
 use Rattle.std.proofs.lemmas.List.{map-append}
 use Rattle.lattice_theory.specs.Vector.{entry, dot, IsPrimitive}
-use Rattle.lattice_theory.specs.Size.{weight}
+use Rattle.lattice_theory.specs.Size.{absolute_sum}
 use Rattle.lattice_theory.specs.Order.{Ascends}
 use Rattle.elimination.specs.Elimination.{Member, IsUnit, IsReduced, AreApart}
 use Rattle.elimination.proofs.KernelLaws.{kernel_starts_lem, kernel_stays_lem, kernel_steps_lem}
@@ -18,8 +18,8 @@ use Rattle.hull.specs.Kernels.{IsPrimitiveKernel, IsSmallKernel, CanReduce, IsRe
 use Rattle.lattice_core.proofs.SizeLimits.{limit_positive}
 
 -- the pivots are as small as the vectors
-pivots_small : (n : ℕ) (ks : List Member) (h : IsSmallKernel n ks) → All (λ v. weight v ≤ 2 * size_limit_of n) h.is_kernel.pivots
-pivots_small n ks h = All-weaker (Contains h.is_kernel.pivots) (λ v. weight v ≤ 2 * size_limit_of n) (λ v c. All-contains (λ w. weight w ≤ 2 * size_limit_of n) h.vectors v h.small (h.is_kernel.are_pivots.chosen v c)) h.is_kernel.pivots (All-contains_itself h.is_kernel.pivots)
+pivots_small : (n : ℕ) (ks : List Member) (h : IsSmallKernel n ks) → All (λ v. absolute_sum v ≤ 2 * size_limit_of n) h.is_kernel.pivots
+pivots_small n ks h = All-weaker (Contains h.is_kernel.pivots) (λ v. absolute_sum v ≤ 2 * size_limit_of n) (λ v c. All-contains (λ w. absolute_sum w ≤ 2 * size_limit_of n) h.vectors v h.small (h.is_kernel.are_pivots.chosen v c)) h.is_kernel.pivots (All-contains_itself h.is_kernel.pivots)
 
 -- a member is primitive
 member_primitive : (n : ℕ) (vs : List (List ℤ)) (ks : List Member) → IsPrimitiveKernel n vs ks → (k : Member) → Contains ks k → IsPrimitive k.vector
@@ -34,11 +34,11 @@ pub member_entries : (n : ℕ) (ks : List Member) → 1 ≤ n → n ≤ 6 → Is
 member_entries n ks a b h k c = (members_fit_lem n (size_limit_of n) h.vectors h.is_kernel.pivots ks (limit_positive n a b) (omega arith) h.is_kernel.are_pivots (pivots_small n ks h) k c (member_primitive n h.vectors ks h.is_kernel k c)).0
 
 -- the values at a difference
-pub member_value : (n : ℕ) (ks : List Member) → 1 ≤ n → n ≤ 6 → IsSmallKernel n ks → (k : Member) → Contains ks k → (v : List ℤ) → weight v ≤ 2 * size_limit_of n → nat_abs (dot k.vector v) < 2 ^ 76
+pub member_value : (n : ℕ) (ks : List Member) → 1 ≤ n → n ≤ 6 → IsSmallKernel n ks → (k : Member) → Contains ks k → (v : List ℤ) → absolute_sum v ≤ 2 * size_limit_of n → nat_abs (dot k.vector v) < 2 ^ 76
 member_value n ks a b h k c v w = (members_fit_lem n (size_limit_of n) h.vectors h.is_kernel.pivots ks (limit_positive n a b) (omega arith) h.is_kernel.are_pivots (pivots_small n ks h) k c (member_primitive n h.vectors ks h.is_kernel k c)).1 v w
 
 -- the products of a step
-member_products : (n : ℕ) (ks : List Member) → 1 ≤ n → n ≤ 6 → IsSmallKernel n ks → 2 ≤ length ks → (k l : Member) → Contains ks k → Contains ks l → (v : List ℤ) → weight v ≤ 2 * size_limit_of n → All (λ a. nat_abs (dot k.vector v *ℤ a) < 2 ^ 126) l.vector
+member_products : (n : ℕ) (ks : List Member) → 1 ≤ n → n ≤ 6 → IsSmallKernel n ks → 2 ≤ length ks → (k l : Member) → Contains ks k → Contains ks l → (v : List ℤ) → absolute_sum v ≤ 2 * size_limit_of n → All (λ a. nat_abs (dot k.vector v *ℤ a) < 2 ^ 126) l.vector
 member_products n ks a b h t k l c d v w = step_products_fit_lem n (size_limit_of n) h.vectors h.is_kernel.pivots ks (limit_positive n a b) (omega arith) h.is_kernel.are_pivots (pivots_small n ks h) t k l c d (member_primitive n h.vectors ks h.is_kernel k c) (member_primitive n h.vectors ks h.is_kernel l d) v w
 
 -- a member behind another has the entry 0 at its own place in it
@@ -59,7 +59,7 @@ two_members : (before : List Member) (p : Member) (after : List Member) (k : Mem
 two_members before p after k c = let l = c.1 in let e = length-append before (p ∷ after) in omega arith
 
 -- so a member behind the pivot can be reduced
-pub can_reduce : (n : ℕ) (before : List Member) (p : Member) (after : List Member) (v : List ℤ) → 1 ≤ n → n ≤ 6 → IsSmallKernel n (before ++ (p ∷ after)) → weight v ≤ 2 * size_limit_of n → dot p.vector v ≢ pos 0
+pub can_reduce : (n : ℕ) (before : List Member) (p : Member) (after : List Member) (v : List ℤ) → 1 ≤ n → n ≤ 6 → IsSmallKernel n (before ++ (p ∷ after)) → absolute_sum v ≤ 2 * size_limit_of n → dot p.vector v ≢ pos 0
     → (k : Member) → Contains after k → CanReduce p (dot p.vector v) k (dot k.vector v)
 can_reduce n before p after v a b h w u k c =
     let ks = before ++ (p ∷ after) in

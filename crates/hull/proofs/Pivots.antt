@@ -5,7 +5,7 @@ use Rattle.std.proofs.lemmas.List.{take_all, drop_more, take-append-drop}
 use Rattle.std.proofs.lemmas.List.Elements.{All-push, AllZip-push, length_all_zip}
 use Rattle.std.proofs.Math.Seq.{take-suc, take-append_seam, get_or-append_seam, drop-append-add}
 use Rattle.lattice_theory.specs.Vector.{dot, IsPrimitive}
-use Rattle.lattice_theory.specs.Size.{weight}
+use Rattle.lattice_theory.specs.Size.{absolute_sum}
 use Rattle.elimination.specs.Elimination.{Member, IsReduced}
 use Rattle.lattice_theory.proofs.Members.{all_from_each, empty, In, in_from_contains, contains_from_in, in_append_left, in_append_right}
 use Rattle.lattice_core.specs.Limits.{size_limit_of}
@@ -60,7 +60,7 @@ pub kernel_few : (n : ℕ) (ks : List Member) → IsSmallKernel n ks → length 
 kernel_few n ks h = let e = h.is_kernel.are_pivots.count in omega arith
 
 -- the pivot and the member of this turn can be reduced
-pub turn_can_reduce : (ks : List Member) (v : List ℤ) (place i : ℕ) (p k : Member) (a b : ℤ) → 1 ≤ length v → length v ≤ 6 → IsSmallKernel (length v) ks → weight v ≤ 2 * size_limit_of (length v) → IsPivotAt ks v place
+pub turn_can_reduce : (ks : List Member) (v : List ℤ) (place i : ℕ) (p k : Member) (a b : ℤ) → 1 ≤ length v → length v ≤ 6 → IsSmallKernel (length v) ks → absolute_sum v ≤ 2 * size_limit_of (length v) → IsPivotAt ks v place
     → p ≡ get_or ks place p → i < length (rest ks place) → k ≡ get_or (rest ks place) i k → a ≡ dot p.vector v → b ≡ dot k.vector v → CanReduce p a k b
 turn_can_reduce ks v place i p k a b some most small w h ep l ek ea eb =
     let parts = pivot_parts ks v place h in

@@ -1,11 +1,11 @@
--- Differences of points: their entries, pairings and weights, and the functions that vanish where they are annihilated.
+-- Differences of points: their entries, pairings and absolute sums, and the functions that vanish where they are annihilated.
 use Rattle.std.proofs.Common.{◌≡◌, ℕ, zero, suc, ◌+◌, ◌*◌, ◌^◌, ◌<◌, ◌≤◌, List, [], ◌∷◌, ◌++◌, length, map, take, drop, ℤ, pos, ◌+ℤ◌, ◌-ℤ◌, ◌*ℤ◌, refl, sym, ap, ap₂, ◌∙◌, subst, arith, All, SFits}
 use Rattle.std.specs.Prelude.{nat_abs, get_or, ◌-◌}
 use Rattle.std.specs.Int.{w64}
 use Rattle.std.proofs.lemmas.Int.{ints, fits_signed_from_abs}
 use Rattle.std.proofs.lemmas.List.{take_all, get_or_default}
 use Rattle.std.proofs.lemmas.List.Elements.{All-weaker}
-use Rattle.normal_bounds.proofs.Sizes.{point_weight_lem}
+use Rattle.normal_bounds.proofs.Sizes.{point_absolute_sum_lem}
 use Rattle.lattice_core.specs.Limits.{size_limit_of, IsSized}
 use Rattle.hull.specs.Kernels.{IsPrimitiveKernel, IsSmallKernel}
 use Rattle.lattice_core.proofs.SizeLimits.{limit_bound}
@@ -13,13 +13,13 @@ use Rattle.hull.proofs.Pivots.{take_more}
 use Rattle.std.proofs.lemmas.List.Elements.{All-head, All-tail}
 use Rattle.lattice_theory.specs.Vector.{entry, dot, HaveDimension}
 use Rattle.lattice_theory.specs.Affine.{Affine, value, Vanishes, IsMultiple}
-use Rattle.lattice_theory.specs.Size.{size, weight}
+use Rattle.lattice_theory.specs.Size.{size, absolute_sum}
 use Rattle.lattice_theory.proofs.Integers.{products_out, linear}
 use Rattle.elimination.specs.Elimination.{Member, Annihilates}
 use Rattle.elimination.specs.Laws.{IsVectorMultiple}
 use Rattle.lattice_theory.proofs.Members.{Each, empty, more, each_from_all, all_from_each}
 use Rattle.elimination.proofs.Vectors.{dot-scaled_left}
-use Rattle.normal_bounds.proofs.Sizes.{difference_weight_lem}
+use Rattle.normal_bounds.proofs.Sizes.{difference_absolute_sum_lem}
 use Rattle.hull.specs.Differences.{difference, differences}
 
 -- a difference is as long as the vectors
@@ -48,9 +48,9 @@ dot-difference (c ∷ k) [] (b ∷ q) e = absurd (omega arith)
 dot-difference (c ∷ k) (a ∷ p) [] e = absurd (omega arith)
 dot-difference (c ∷ k) (a ∷ p) (b ∷ q) e = regroup c a b (dot k p) (dot k q) (dot k (difference p q)) (dot-difference k p q (omega arith))
 
--- its weight
-pub weight-difference : (p q : List ℤ) (m : ℕ) → length p ≡ length q → weight p ≤ m → weight q ≤ m → weight (difference p q) ≤ 2 * m
-weight-difference p q m e h k = omega (arith, difference_weight_lem p q (difference p q) (λ i. entry-difference p q i e))
+-- its absolute sum
+pub absolute_sum-difference : (p q : List ℤ) (m : ℕ) → length p ≡ length q → absolute_sum p ≤ m → absolute_sum q ≤ m → absolute_sum (difference p q) ≤ 2 * m
+absolute_sum-difference p q m e h k = omega (arith, difference_absolute_sum_lem p q (difference p q) (λ i. entry-difference p q i e))
 
 -- equal pairings at two points annihilate their difference
 pub zero_difference : (k p q : List ℤ) → length p ≡ length q → dot k p ≡ dot k q → dot k (difference p q) ≡ pos 0
@@ -116,8 +116,8 @@ multiple_from_normals g f p h k m = record {
 pub normals_from_multiple : (g f : Affine) → IsMultiple g f → IsVectorMultiple g.normal f.normal
 normals_from_multiple g f m = record { left = m.left; right = m.right; nonzero = m.nonzero; same = m.normals }
 
--- an entry of a point isn't larger than its weight
-pub entry_small : (p : List ℤ) (i m : ℕ) → weight p ≤ m → nat_abs (entry p i) ≤ m
+-- an entry of a point isn't larger than its absolute sum
+pub entry_small : (p : List ℤ) (i m : ℕ) → absolute_sum p ≤ m → nat_abs (entry p i) ≤ m
 entry_small [] i m h = omega arith
 entry_small (a ∷ p) zero m h = omega arith
 entry_small (a ∷ p) (suc i) m h = entry_small p i m (omega arith)
@@ -138,12 +138,12 @@ pub difference_all : (p q x : List ℤ) (i : ℕ) → length p ≡ length q → 
 difference_all p q x i e h o = o ∙ take_all i (difference p q) (let l = length-difference p q e in omega arith)
 
 -- each point within the size limit is small
-pub points_small : (n : ℕ) (points : List (List ℤ)) → HaveDimension n points → IsSized n points → All (λ p. weight p ≤ size_limit_of n) points
-points_small n points d s = All-weaker (λ p. weight p ≤ size n points) (λ p. weight p ≤ size_limit_of n) (λ p h. omega arith) points (point_weight_lem n points d)
+pub points_small : (n : ℕ) (points : List (List ℤ)) → HaveDimension n points → IsSized n points → All (λ p. absolute_sum p ≤ size_limit_of n) points
+points_small n points d s = All-weaker (λ p. absolute_sum p ≤ size n points) (λ p. absolute_sum p ≤ size_limit_of n) (λ p h. omega arith) points (point_absolute_sum_lem n points d)
 
 -- no larger than the limit of the plane
-pub points_bound : (n : ℕ) (points : List (List ℤ)) → HaveDimension n points → IsSized n points → All (λ p. weight p ≤ 2 ^ 30) points
-points_bound n points d s = All-weaker (λ p. weight p ≤ size_limit_of n) (λ p. weight p ≤ 2 ^ 30) (λ p h. let b = limit_bound n in omega arith) points (points_small n points d s)
+pub points_bound : (n : ℕ) (points : List (List ℤ)) → HaveDimension n points → IsSized n points → All (λ p. absolute_sum p ≤ 2 ^ 30) points
+points_bound n points d s = All-weaker (λ p. absolute_sum p ≤ size_limit_of n) (λ p. absolute_sum p ≤ 2 ^ 30) (λ p h. let b = limit_bound n in omega arith) points (points_small n points d s)
 
 -- the differences of points and a first one
 abbrev pub from : List ℤ → List (List ℤ) → List (List ℤ)
@@ -155,12 +155,12 @@ from-push first [] p = refl
 from-push first (q ∷ points) p = ap (λ (xs : List (List ℤ)). difference q first ∷ xs) (from-push first points p)
 
 -- they are small
-pub from_small : (n m : ℕ) (first : List ℤ) (points : List (List ℤ)) → length first ≡ n → weight first ≤ m → HaveDimension n points → All (λ p. weight p ≤ m) points → All (λ v. weight v ≤ 2 * m) (from first points)
-from_small n m first points e w d s = all_from_each (each points (each_from_all (λ p. length p ≡ n) points d) (each_from_all (λ p. weight p ≤ m) points s))
+pub from_small : (n m : ℕ) (first : List ℤ) (points : List (List ℤ)) → length first ≡ n → absolute_sum first ≤ m → HaveDimension n points → All (λ p. absolute_sum p ≤ m) points → All (λ v. absolute_sum v ≤ 2 * m) (from first points)
+from_small n m first points e w d s = all_from_each (each points (each_from_all (λ p. length p ≡ n) points d) (each_from_all (λ p. absolute_sum p ≤ m) points s))
   where
-    each : (ps : List (List ℤ)) → Each (λ p. length p ≡ n) ps → Each (λ p. weight p ≤ m) ps → Each (λ v. weight v ≤ 2 * m) (from first ps)
+    each : (ps : List (List ℤ)) → Each (λ p. length p ≡ n) ps → Each (λ p. absolute_sum p ≤ m) ps → Each (λ v. absolute_sum v ≤ 2 * m) (from first ps)
     each [] empty empty = empty
-    each (p ∷ ps) (more l ls) (more h hs) = more (weight-difference p first m (l ∙ sym e) h w) (each ps ls hs)
+    each (p ∷ ps) (more l ls) (more h hs) = more (absolute_sum-difference p first m (l ∙ sym e) h w) (each ps ls hs)
 
 -- what the code has behind the first point
 abbrev pub others_of : List (List ℤ) → List (List ℤ)
@@ -182,7 +182,7 @@ others_all P [] h = h
 others_all P (p ∷ points) h = subst (All P) (sym (take_all (length (p ∷ points) - 1) points (omega arith))) (All-tail P p points h)
 
 -- a kernel of differences is a small one
-pub small_kernel : (n : ℕ) (first : List ℤ) (points : List (List ℤ)) (ks ms : List Member) (v : List ℤ) → length first ≡ n → weight first ≤ size_limit_of n → HaveDimension n points → All (λ p. weight p ≤ size_limit_of n) points
+pub small_kernel : (n : ℕ) (first : List ℤ) (points : List (List ℤ)) (ks ms : List Member) (v : List ℤ) → length first ≡ n → absolute_sum first ≤ size_limit_of n → HaveDimension n points → All (λ p. absolute_sum p ≤ size_limit_of n) points
     → IsPrimitiveKernel n (from first points) ks → ms ≡ ks → length v ≡ n → IsSmallKernel (length v) ms
 small_kernel n first points ks ms v e w d s k same l = subst (λ (m : ℕ). IsSmallKernel m ms) (sym l) (subst (IsSmallKernel n) (sym same) (record { vectors = from first points; is_kernel = k; small = from_small n (size_limit_of n) first points e w d s }))
 

@@ -2,7 +2,7 @@
 use Rattle.std.specs.Prelude.{◌≡◌, ◌≢◌, ℕ, ◌*◌, ◌^◌, ◌<◌, ◌≤◌, List, ◌∷◌, ◌++◌, length, map, ℤ, pos, ◌*ℤ◌, ◌-ℤ◌, ◌<ℤ◌, nat_abs}
 use Rattle.std.specs.List.{All, AllZip}
 use Rattle.lattice_theory.specs.Vector.{entry, dot, IsPrimitive}
-use Rattle.lattice_theory.specs.Size.{weight}
+use Rattle.lattice_theory.specs.Size.{absolute_sum}
 use Rattle.lattice_theory.specs.Order.{Ascends}
 use Rattle.elimination.specs.Elimination.{Member, IsKernel, ArePivots, IsReduced}
 use Rattle.lattice_core.specs.Limits.{size_limit_of}
@@ -19,7 +19,7 @@ pub record IsPrimitiveKernel (n : ℕ) (vectors : List (List ℤ)) (ks : List Me
 pub record IsSmallKernel (n : ℕ) (ks : List Member) : Type 0 where
   pub vectors : List (List ℤ)
   pub is_kernel : IsPrimitiveKernel n vectors ks
-  pub small : All (λ v. weight v ≤ 2 * size_limit_of n) vectors
+  pub small : All (λ v. absolute_sum v ≤ 2 * size_limit_of n) vectors
 
 -- the member p at a place of ks is the first that doesn't pair to 0 with v
 pub record IsPivotAt (ks : List Member) (v : List ℤ) (place : ℕ) : Type 0 where

@@ -3,7 +3,7 @@
 ghost use Rattle.std.specs.Prelude.{◌≡◌, ◌+◌, ◌*◌, ◌^◌, ◌<◌, ◌≤◌, length, nat_abs};
 ghost use Rattle.std.specs.List.{All};
 ghost use Rattle.lattice_theory.specs.Vector.{HaveDimension};
-ghost use Rattle.lattice_theory.specs.Size.{size, weight};
+ghost use Rattle.lattice_theory.specs.Size.{size, absolute_sum};
 ghost use Rattle.lattice_core.specs.Limits.{size_limit_of, IsSized};
 ghost use Rattle.lattice_core.specs.Dimensions.{dimension_of};
 ghost use Rattle.hull.specs.Differences.{difference, differences};
@@ -17,8 +17,8 @@ use lattice_core::Point;
 /// The difference of two points of one dimension.
 pub(crate) fn point_difference(p: &Point, q: &Point) -> ArrayVec<i64, 6>
     requires same { length p.now ≡ length q.now }
-    requires small_p { weight p.now ≤ 2 ^ 30 }
-    requires small_q { weight q.now ≤ 2 ^ 30 }
+    requires small_p { absolute_sum p.now ≤ 2 ^ 30 }
+    requires small_q { absolute_sum q.now ≤ 2 ^ 30 }
     ensures { result.items ≡ difference p.now q.now }
 {
     let mut entries = ArrayVec::new();

@@ -4,7 +4,7 @@ ghost use Rattle.std.specs.Prelude.{◌≡◌, ◌↔◌, ◌^◌, ◌<◌, ◌�
 ghost use Rattle.std.specs.List.{All};
 ghost use Rattle.lattice_theory.specs.Vector.{dot, scaled, HaveDimension};
 ghost use Rattle.lattice_theory.specs.Affine.{value, IsNonnegative};
-ghost use Rattle.lattice_theory.specs.Size.{weight};
+ghost use Rattle.lattice_theory.specs.Size.{absolute_sum};
 ghost use Rattle.hull.specs.Hyperplanes.{StartsPositive};
 
 use arrayvec::ArrayVec;
@@ -14,7 +14,7 @@ use lattice_core::{Functional, Point, narrowed, pair};
 pub(crate) fn function_at(normal: &[i128], p: &Point) -> Functional
     requires same { length normal.now ≡ length p.now }
     requires entries { All (λ a. nat_abs a < 2 ^ 63) normal.now }
-    requires small { weight p.now ≤ 2 ^ 30 }
+    requires small { absolute_sum p.now ≤ 2 ^ 30 }
     ensures normal { result.normal ≡ normal.now }
     ensures constant { result.constant ≡ neg_ℤ (dot normal.now p.now) }
     ensures bound { nat_abs result.constant ≤ 2 ^ 96 }
@@ -60,7 +60,7 @@ pub(crate) fn starts_positive(normal: &[i64]) -> bool
 /// Whether no point lies on the function's negative side.
 pub(crate) fn is_nonnegative_on(points: &[Point], f: &Functional) -> bool
     requires same { HaveDimension (length f.now.normal) points.now }
-    requires small { All (λ p. weight p ≤ 2 ^ 30) points.now }
+    requires small { All (λ p. absolute_sum p ≤ 2 ^ 30) points.now }
     requires constant { nat_abs f.now.constant ≤ 2 ^ 100 }
     ensures { IsTrue result ↔ IsNonnegative points.now f.now }
 {

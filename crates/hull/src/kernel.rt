@@ -3,7 +3,7 @@
 ghost use Rattle.std.specs.Prelude.{◌≡◌, ◌≢◌, ◌⊎◌, ℕ, ◌+◌, ◌*◌, ◌^◌, ◌<◌, ◌≤◌, List, [], ◌∷◌, ◌++◌, length, take, drop, ℤ, pos, nat_abs, MatchOption, IfNone, IfSome, slice_index_or};
 ghost use Rattle.std.specs.List.{All};
 ghost use Rattle.lattice_theory.specs.Vector.{dot, IsPrimitive};
-ghost use Rattle.lattice_theory.specs.Size.{weight};
+ghost use Rattle.lattice_theory.specs.Size.{absolute_sum};
 ghost use Rattle.elimination.specs.Elimination.{Member, IsUnit};
 ghost use Rattle.lattice_core.specs.Limits.{size_limit_of};
 ghost use Rattle.hull.specs.Kernels.{IsPrimitiveKernel, IsSmallKernel, IsPivotAt, IsStepped};
@@ -55,7 +55,7 @@ fn pivot_place(kernel: &[KernelMember], v: &[i64]) -> Option<usize>
     requires kernel { IsSmallKernel (length v.now) kernel.now }
     requires some { 1 ≤ length v.now }
     requires most { length v.now ≤ 6 }
-    requires small { weight v.now ≤ 2 * size_limit_of (length v.now) }
+    requires small { absolute_sum v.now ≤ 2 * size_limit_of (length v.now) }
     ensures { MatchOption result (All (λ k. dot k.vector v.now ≡ pos 0) kernel.now) (IsPivotAt kernel.now v.now) }
 {
     for (place, member) in kernel.iter().enumerate() {
@@ -71,7 +71,7 @@ fn stepped(kernel: &[KernelMember], place: usize, v: &[i64]) -> ArrayVec<KernelM
     requires kernel { IsSmallKernel (length v.now) kernel.now }
     requires some { 1 ≤ length v.now }
     requires most { length v.now ≤ 6 }
-    requires small { weight v.now ≤ 2 * size_limit_of (length v.now) }
+    requires small { absolute_sum v.now ≤ 2 * size_limit_of (length v.now) }
     requires pivot { IsPivotAt kernel.now v.now place }
     ensures { (h : IsPivotAt kernel.now v.now place) → IsStepped h.before h.pivot h.after v.now result.items }
 {
@@ -92,7 +92,7 @@ pub(crate) fn changed_kernel(
     requires kernel { IsSmallKernel (length v.now) kernel.now }
     requires some { 1 ≤ length v.now }
     requires most { length v.now ≤ 6 }
-    requires small { weight v.now ≤ 2 * size_limit_of (length v.now) }
+    requires small { absolute_sum v.now ≤ 2 * size_limit_of (length v.now) }
     ensures kernel { IfSome result (λ next. (vs : List (List ℤ)) → IsPrimitiveKernel (length v.now) vs kernel.now → IsPrimitiveKernel (length v.now) (vs ++ (v.now ∷ [])) next.items) }
     ensures count { IfSome result (λ next. length next.items + 1 ≡ length kernel.now) }
     ensures stays { IfNone result (All (λ k. dot k.vector v.now ≡ pos 0) kernel.now) }
@@ -108,7 +108,7 @@ pub(crate) fn kernel_with(kernel: &[KernelMember], v: &[i64]) -> ArrayVec<Kernel
     requires kernel { IsSmallKernel (length v.now) kernel.now }
     requires some { 1 ≤ length v.now }
     requires most { length v.now ≤ 6 }
-    requires small { weight v.now ≤ 2 * size_limit_of (length v.now) }
+    requires small { absolute_sum v.now ≤ 2 * size_limit_of (length v.now) }
     ensures kernel { (vs : List (List ℤ)) → IsPrimitiveKernel (length v.now) vs kernel.now → IsPrimitiveKernel (length v.now) (vs ++ (v.now ∷ [])) result.items }
     ensures count { (length result.items ≡ length kernel.now) ⊎ (length result.items + 1 ≡ length kernel.now) }
 {

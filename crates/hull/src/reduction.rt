@@ -3,7 +3,7 @@
 ghost use Rattle.std.specs.Prelude.{◌≡◌, ℕ, ◌^◌, ◌*◌, ◌<◌, ◌≤◌, length, pos, neg_ℤ, ◌*ℤ◌, ◌-ℤ◌, nat_abs};
 ghost use Rattle.std.specs.List.{All};
 ghost use Rattle.lattice_theory.specs.Vector.{dot};
-ghost use Rattle.lattice_theory.specs.Size.{weight};
+ghost use Rattle.lattice_theory.specs.Size.{absolute_sum};
 ghost use Rattle.hull.specs.Kernels.{CanReduce, IsReducedBy, AreMultiplesApart};
 
 use crate::member::KernelMember;
@@ -15,7 +15,7 @@ pub(crate) fn pairing(k: &[i128], v: &[i64]) -> i128
     requires same_length { length k.now ≡ length v.now }
     requires most { length v.now ≤ 6 }
     requires entries { All (λ a. nat_abs a ≤ 2 ^ 63) k.now }
-    requires small { weight v.now ≤ 2 ^ 33 }
+    requires small { absolute_sum v.now ≤ 2 ^ 33 }
     ensures value { result ≡ dot k.now v.now }
 {
     let mut sum = 0_i128;

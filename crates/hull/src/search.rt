@@ -5,7 +5,7 @@ ghost use Rattle.std.specs.List.{All, Contains};
 ghost use Rattle.lattice_theory.specs.Vector.{dot, HaveDimension};
 ghost use Rattle.lattice_theory.specs.Affine.{Affine, IsNonnegative};
 ghost use Rattle.lattice_theory.specs.Facet.{IsFacet};
-ghost use Rattle.lattice_theory.specs.Size.{size, weight};
+ghost use Rattle.lattice_theory.specs.Size.{size, absolute_sum};
 ghost use Rattle.lattice_core.specs.Limits.{IsSized};
 ghost use Rattle.hull.specs.Search.{IsKernelOfPoints, IsReached, AddsFacets, IsSupporting, AddsEach};
 
@@ -29,7 +29,7 @@ fn add_supporting(
     facets: &mut Vec<Functional>,
 ) -> Result<(), NoMemory>
     requires same { HaveDimension (length f.normal) points.now }
-    requires small { All (λ p. weight p ≤ 2 ^ 30) points.now }
+    requires small { All (λ p. absolute_sum p ≤ 2 ^ 30) points.now }
     requires constant { nat_abs f.constant ≤ 2 ^ 100 }
     ensures { OnOk result (AddsEach (IsSupporting points.now f) facets.old.items facets.new.items) }
 {

@@ -3,7 +3,7 @@
 ghost use Rattle.std.specs.Prelude.{◌≡◌, ◌↔◌, ◌^◌, ◌<◌, ◌≤◌, length, nat_abs, IfOk, IfErr, IsTrue};
 ghost use Rattle.std.specs.List.{All};
 ghost use Rattle.lattice_theory.specs.Vector.{HaveDimension};
-ghost use Rattle.lattice_theory.specs.Size.{weight};
+ghost use Rattle.lattice_theory.specs.Size.{absolute_sum};
 ghost use Rattle.lattice_theory.specs.Hull.{AreVertices};
 ghost use Rattle.lattice_theory.specs.Facet.{IsFlat, AreFacetsInAnyOrder};
 ghost use Rattle.lattice_core.specs.Dimensions.{dimension_of};
@@ -22,8 +22,8 @@ fn lies_with(facets: &[Functional], v: &Point, p: &Point) -> bool
     requires same { length v.now ≡ length p.now }
     requires dimension { All (λ f. length f.normal ≡ length v.now) facets.now }
     requires constants { All (λ f. nat_abs f.constant ≤ 2 ^ 100) facets.now }
-    requires small_v { weight v.now ≤ 2 ^ 30 }
-    requires small_p { weight p.now ≤ 2 ^ 30 }
+    requires small_v { absolute_sum v.now ≤ 2 ^ 30 }
+    requires small_p { absolute_sum p.now ≤ 2 ^ 30 }
     ensures { IsTrue result ↔ LiesWith facets.now v.now p.now }
 {
     facets.iter().all(|f| f.at(v) != 0 || f.at(p) == 0)
@@ -32,10 +32,10 @@ fn lies_with(facets: &[Functional], v: &Point, p: &Point) -> bool
 /// Whether no other point lies on every facet on which v lies.
 fn is_vertex(points: &[Point], facets: &[Functional], v: &Point) -> bool
     requires dimension { HaveDimension (length v.now) points.now }
-    requires small { All (λ p. weight p ≤ 2 ^ 30) points.now }
+    requires small { All (λ p. absolute_sum p ≤ 2 ^ 30) points.now }
     requires same { All (λ f. length f.normal ≡ length v.now) facets.now }
     requires constants { All (λ f. nat_abs f.constant ≤ 2 ^ 100) facets.now }
-    requires small_v { weight v.now ≤ 2 ^ 30 }
+    requires small_v { absolute_sum v.now ≤ 2 ^ 30 }
     ensures { IsTrue result ↔ LiesAlone points.now facets.now v.now }
 {
     points

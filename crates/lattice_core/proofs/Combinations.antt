@@ -6,13 +6,13 @@ use Rattle.std.proofs.lemmas.Int.{ints}
 use Rattle.std.proofs.Math.Nat.{mul-le-mul_right}
 use Rattle.lattice_theory.specs.Vector.{entry, dot, scaled, IsPrimitive}
 use Rattle.lattice_theory.specs.Affine.{Affine, value}
-use Rattle.lattice_theory.specs.Size.{weight, size}
+use Rattle.lattice_theory.specs.Size.{absolute_sum, size}
 use Rattle.lattice_theory.proofs.Integers.{products_out, *ℤ-zero, minus_one-*ℤ, linear, positive_nonzero, positive_pos, product_positive, factor_zero, *ℤ_assoc}
 use Rattle.elimination.proofs.Vectors.{combined, dot_comm, dot-scaled_left, dot-combined_left, entry-scaled, entry-combined, length-scaled, length-combined, same_from_entries, zero_from_entries, entries_from_zero}
 use Rattle.elimination.proofs.Divisibility.{primitive_nonzero, primitive_same}
 use Rattle.lattice_theory.proofs.Members.{Each, empty, more, each_from_all}
 use Rattle.normal_bounds.specs.Bounds.{EntriesWithin}
-use Rattle.normal_bounds.proofs.Sizes.{all_within, point_weight_lem}
+use Rattle.normal_bounds.proofs.Sizes.{all_within, point_absolute_sum_lem}
 use Rattle.normal_bounds.proofs.Normals.{normal_bound_lem}
 use Rattle.normal_bounds.proofs.Numbers.{values_fit_lem}
 use Rattle.normal_bounds.proofs.Products.{functions_fit_lem, combine_products_fit_lem}
@@ -21,13 +21,13 @@ use Rattle.lattice_core.specs.Divisors.{IsPrimitivePart}
 use Rattle.lattice_core.specs.Combine.{IsPositiveCombination, IsCombinationAt, AreOpposite, twice_limit, IsSmallAt, IsFixedWithinLimit, IsCrossSum}
 use Rattle.lattice_core.proofs.SizeLimits.{limit_positive}
 
--- the weight of a vector with small entries
-weight_each : (bound : ℕ) {x : List ℤ} → Each (λ a. nat_abs a ≤ bound) x → weight x ≤ length x * bound
-weight_each bound empty = omega arith
-weight_each bound (more a w) = let h = weight_each bound w in omega (arith, a, h)
+-- the absolute sum of a vector with small entries
+absolute_sum_each : (bound : ℕ) {x : List ℤ} → Each (λ a. nat_abs a ≤ bound) x → absolute_sum x ≤ length x * bound
+absolute_sum_each bound empty = omega arith
+absolute_sum_each bound (more a w) = let h = absolute_sum_each bound w in omega (arith, a, h)
 
-weight_within : (bound : ℕ) (x : List ℤ) → EntriesWithin bound x → weight x ≤ length x * bound
-weight_within bound x h = weight_each bound (each_from_all _ x (all_within bound x h))
+absolute_sum_within : (bound : ℕ) (x : List ℤ) → EntriesWithin bound x → absolute_sum x ≤ length x * bound
+absolute_sum_within bound x h = absolute_sum_each bound (each_from_all _ x (all_within bound x h))
 
 -- the bound on the entries of normals, in numbers
 normal_power : (n : ℕ) → n ≤ 6 → twice_limit n ^ (n - 1) ≤ 2 ^ 57
@@ -40,12 +40,12 @@ normal_power (suc (suc (suc (suc (suc zero))))) h = omega arith
 normal_power (suc (suc (suc (suc (suc (suc zero)))))) h = omega arith
 normal_power (suc (suc (suc (suc (suc (suc (suc n))))))) h = absurd (omega arith)
 
--- a normal with entries within the bound has little weight
-pub normal_weight : (n : ℕ) (x : List ℤ) → n ≤ 6 → length x ≡ n → EntriesWithin (twice_limit n ^ (n - 1)) x → weight x ≤ 2 ^ 60
-normal_weight n x h l w =
-    let total = weight_within _ x w in
+-- a normal with entries within the bound has a small absolute sum
+pub normal_absolute_sum : (n : ℕ) (x : List ℤ) → n ≤ 6 → length x ≡ n → EntriesWithin (twice_limit n ^ (n - 1)) x → absolute_sum x ≤ 2 ^ 60
+normal_absolute_sum n x h l w =
+    let total = absolute_sum_within _ x w in
     let power = normal_power n h in
-    few (length x) _ (weight x) (omega (arith, l)) power total
+    few (length x) _ (absolute_sum x) (omega (arith, l)) power total
   where
     few : (m b t : ℕ) → m ≤ 6 → b ≤ 2 ^ 57 → t ≤ m * b → t ≤ 2 ^ 60
     few m b t h k e = let p = mul-le-mul_right b h in omega arith
@@ -196,16 +196,16 @@ part_is f g h p s v opposite df dg c ds es part =
     (factor_positive (value f p) (value g p) k.whole opposite k.positive.0) part.primitive c.primitive (same_from_entries _ _ lengths entries)
 
 -- a function that points within the limit fix is small
-pub fixed_small : (n : ℕ) (h : Affine) → 1 ≤ n → n ≤ 6 → IsFixedWithinLimit n h → All (λ a. nat_abs a < 2 ^ 63) h.normal × (weight h.normal ≤ 2 ^ 60)
+pub fixed_small : (n : ℕ) (h : Affine) → 1 ≤ n → n ≤ 6 → IsFixedWithinLimit n h → All (λ a. nat_abs a < 2 ^ 63) h.normal × (absolute_sum h.normal ≤ 2 ^ 60)
 fixed_small zero h some most f = absurd (omega arith)
 fixed_small (suc k) h some most f =
     let n = suc k in
     let S = size_limit_of n in
     let positive = limit_positive n some most in
-    let weights = All-weaker (λ p. weight p ≤ size n f.points) (λ p. weight p ≤ S) (λ p w. let s = f.small in omega (arith, w, s)) f.points (point_weight_lem n f.points f.dimension) in
-    let bound = normal_bound_lem k S f.points h positive f.count f.dimension weights f.fixed in
-    let fits = functions_fit_lem k S f.points h positive (omega arith) f.count f.dimension weights f.fixed in
-    (fits.0, normal_weight n h.normal most f.fixed.dimension (subst (λ (j : ℕ). EntriesWithin (twice_limit n ^ j) h.normal) (behind k) bound.0))
+    let absolute_sums = All-weaker (λ p. absolute_sum p ≤ size n f.points) (λ p. absolute_sum p ≤ S) (λ p w. let s = f.small in omega (arith, w, s)) f.points (point_absolute_sum_lem n f.points f.dimension) in
+    let bound = normal_bound_lem k S f.points h positive f.count f.dimension absolute_sums f.fixed in
+    let fits = functions_fit_lem k S f.points h positive (omega arith) f.count f.dimension absolute_sums f.fixed in
+    (fits.0, normal_absolute_sum n h.normal most f.fixed.dimension (subst (λ (j : ℕ). EntriesWithin (twice_limit n ^ j) h.normal) (behind k) bound.0))
   where
     behind : (k : ℕ) → k ≡ suc k - 1
     behind k = omega arith

@@ -6,7 +6,7 @@ use Rattle.std.proofs.Math.Nat.{mul-le-mul_right}
 use Rattle.std.specs.Int.RustNames.{FitsSigned}
 use mir.Syntax.{w128}
 use Rattle.lattice_theory.specs.Vector.{entry, dot}
-use Rattle.lattice_theory.specs.Size.{weight}
+use Rattle.lattice_theory.specs.Size.{absolute_sum}
 use Rattle.lattice_theory.proofs.Integers.{first_terms}
 
 -- a product with a number of 64 bits
@@ -17,9 +17,9 @@ product_bound a b h = rw unsigned_abs-mul (mul-le-mul_right (nat_abs b) h)
 dot_drop : (x y : List ℤ) (i : ℕ) → i < length x → i < length y → dot (drop i x) (drop i y) ≡ entry x i *ℤ entry y i +ℤ dot (drop (i + 1) x) (drop (i + 1) y)
 dot_drop x y i h k = rw (add-one, drop-cons x i (pos 0) h, drop-cons y i (pos 0) k)
 
--- one entry of a weight, and the rest
-weight_drop : (y : List ℤ) (i : ℕ) → i < length y → weight (drop i y) ≡ nat_abs (entry y i) + weight (drop (i + 1) y)
-weight_drop y i k = rw (add-one, drop-cons y i (pos 0) k)
+-- one entry of an absolute sum, and the rest
+absolute_sum_drop : (y : List ℤ) (i : ℕ) → i < length y → absolute_sum (drop i y) ≡ nat_abs (entry y i) + absolute_sum (drop (i + 1) y)
+absolute_sum_drop y i k = rw (add-one, drop-cons y i (pos 0) k)
 
 -- the absolute value of a sum
 abs_sum : (s p t : ℤ) → t ≡ s +ℤ p → nat_abs t ≤ nat_abs s + nat_abs p
@@ -29,14 +29,14 @@ abs_sum s p t h = omega (arith, ints)
 pub sum_more : (x y : List ℤ) (i : ℕ) (s p t : ℤ) → i < length x → i < length y → p ≡ entry x i *ℤ entry y i → t ≡ s +ℤ p → s +ℤ dot (drop i x) (drop i y) ≡ dot x y → t +ℤ dot (drop (i + 1) x) (drop (i + 1) y) ≡ dot x y
 sum_more x y i s p t h k m e d = first_terms s p (dot (drop (i + 1) x) (drop (i + 1) y)) _ t e (rw m (rw (dot_drop x y i h k) at d))
 
--- the sum so far and the weight of what is left stay below the weight of all
-pub bound_more : (y : List ℤ) (i m : ℕ) (s a p t : ℤ) → i < length y → nat_abs a ≤ 2 ^ 63 → p ≡ a *ℤ entry y i → t ≡ s +ℤ p → nat_abs s + 2 ^ 63 * weight (drop i y) ≤ m → nat_abs t + 2 ^ 63 * weight (drop (i + 1) y) ≤ m
+-- the sum so far and the absolute sum of what is left stay below the absolute sum of all
+pub bound_more : (y : List ℤ) (i m : ℕ) (s a p t : ℤ) → i < length y → nat_abs a ≤ 2 ^ 63 → p ≡ a *ℤ entry y i → t ≡ s +ℤ p → nat_abs s + 2 ^ 63 * absolute_sum (drop i y) ≤ m → nat_abs t + 2 ^ 63 * absolute_sum (drop (i + 1) y) ≤ m
 bound_more y i m s a p t k h q e d =
     let b : nat_abs p ≤ 2 ^ 63 * nat_abs (entry y i) = rw q (product_bound a (entry y i) h) in
-    omega (arith, abs_sum s p t e, weight_drop y i k)
+    omega (arith, abs_sum s p t e, absolute_sum_drop y i k)
 
 -- the next sum fits
-pub sum_fits : (y : List ℤ) (i : ℕ) (s a p : ℤ) → i < length y → weight y ≤ 2 ^ 60 → nat_abs a ≤ 2 ^ 63 → p ≡ a *ℤ entry y i → nat_abs s + 2 ^ 63 * weight (drop i y) ≤ 2 ^ 63 * weight y → FitsSigned w128 (s +ℤ p)
+pub sum_fits : (y : List ℤ) (i : ℕ) (s a p : ℤ) → i < length y → absolute_sum y ≤ 2 ^ 60 → nat_abs a ≤ 2 ^ 63 → p ≡ a *ℤ entry y i → nat_abs s + 2 ^ 63 * absolute_sum (drop i y) ≤ 2 ^ 63 * absolute_sum y → FitsSigned w128 (s +ℤ p)
 sum_fits y i s a p k small h q d = fits_signed_from_abs w128 (s +ℤ p) (omega (arith, bound_more y i _ s a p (s +ℤ p) k h q refl d))
 
 -- at the end nothing is left

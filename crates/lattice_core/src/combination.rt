@@ -3,7 +3,7 @@ ghost use Rattle.std.specs.Prelude.{◌≡◌, ℕ, ◌^◌, ◌<◌, ◌≤◌,
 ghost use Rattle.std.specs.List.{All};
 ghost use Rattle.lattice_theory.specs.Vector.{dot, entry};
 ghost use Rattle.lattice_theory.specs.Affine.{Affine, value};
-ghost use Rattle.lattice_theory.specs.Size.{weight};
+ghost use Rattle.lattice_theory.specs.Size.{absolute_sum};
 ghost use Rattle.lattice_core.specs.Combine.{AreOpposite, HasFixedCombination, IsCombinationAt, IsCrossSum, IsSmallAt};
 
 use crate::pairing::wide_pair;
@@ -31,7 +31,7 @@ fn combined_normal(f: &Functional, g: &Functional, p: &Point) -> ArrayVec<i64, 6
     requires right { IsSmallAt p.now g.now }
     requires fixed { HasFixedCombination f.now g.now p.now }
     ensures normal { (h : Affine) → IsCombinationAt f.now g.now p.now h → result.items ≡ h.normal }
-    ensures small { weight result.items ≤ 2 ^ 60 }
+    ensures small { absolute_sum result.items ≤ 2 ^ 60 }
 {
     match primitive(&cross_sum(f, g, p)) {
         Some(normal) => narrowed(&normal),
@@ -94,7 +94,7 @@ fn sum_of_products(left: i128, a: i128, right: i128, b: i128) -> i128
 /// The function with this normal that vanishes at the point.
 fn through(normal: &[i64], p: &Point) -> Functional
     requires dimension { length normal.now ≡ length p.now }
-    requires small { weight normal.now ≤ 2 ^ 60 }
+    requires small { absolute_sum normal.now ≤ 2 ^ 60 }
     ensures normal { result.normal ≡ normal.now }
     ensures constant { result.constant ≡ neg_ℤ (dot p.now normal.now) }
 {

@@ -2,7 +2,7 @@
 ghost use Rattle.std.specs.Prelude.{◌≡◌, ◌^◌, ◌≤◌, ◌↔◌, length, nat_abs, IsSome, IfSome, IsTrue, ⊤};
 ghost use Rattle.lattice_theory.specs.Affine.{Affine, value};
 ghost use Rattle.lattice_theory.specs.Order.{FunctionLess};
-ghost use Rattle.lattice_theory.specs.Size.{weight};
+ghost use Rattle.lattice_theory.specs.Size.{absolute_sum};
 ghost use Rattle.lattice_core.specs.Compare.{Compares};
 
 use crate::entries::held;
@@ -90,7 +90,7 @@ impl Functional {
     #[inline]
     pub fn at(&self, p: &Point) -> i128
         requires dimension { length self.now.normal ≡ length p.now }
-        requires small { weight p.now ≤ 2 ^ 33 }
+        requires small { absolute_sum p.now ≤ 2 ^ 33 }
         requires constant { nat_abs self.now.constant ≤ 2 ^ 100 }
         ensures { result ≡ value self.now p.now }
     {

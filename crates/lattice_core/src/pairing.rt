@@ -1,7 +1,7 @@
 //! The pairing of two vectors.
 ghost use Rattle.std.specs.Prelude.{◌≡◌, ◌^◌, ◌≤◌, ◌*◌, ◌*ℤ◌, length, nat_abs};
 ghost use Rattle.lattice_theory.specs.Vector.{dot};
-ghost use Rattle.lattice_theory.specs.Size.{weight};
+ghost use Rattle.lattice_theory.specs.Size.{absolute_sum};
 
 /// The sum of the products of the entries of two vectors of equal length, at most 6. The absolute values of the second vector's entries sum to
 /// at most 2^33, and the answer's is at most 2^96.
@@ -9,7 +9,7 @@ ghost use Rattle.lattice_theory.specs.Size.{weight};
 pub fn pair(a: &[i64], b: &[i64]) -> i128
     requires same_length { length a.now ≡ length b.now }
     requires most { length b.now ≤ 6 }
-    requires small { weight b.now ≤ 2 ^ 33 }
+    requires small { absolute_sum b.now ≤ 2 ^ 33 }
     ensures value { result ≡ dot a.now b.now }
     ensures bound { nat_abs result ≤ 2 ^ 96 }
 {
@@ -21,9 +21,9 @@ pub fn pair(a: &[i64], b: &[i64]) -> i128
 pub(crate) fn wide_pair(a: &[i64], b: &[i64]) -> i128
     requires same_length { length a.now ≡ length b.now }
     requires most { length b.now ≤ 6 }
-    requires small { weight b.now ≤ 2 ^ 60 }
+    requires small { absolute_sum b.now ≤ 2 ^ 60 }
     ensures value { result ≡ dot a.now b.now }
-    ensures bound { nat_abs result ≤ 2 ^ 63 * weight b.now }
+    ensures bound { nat_abs result ≤ 2 ^ 63 * absolute_sum b.now }
 {
     let mut sum = 0_i128;
     for i in 0..a.len() {

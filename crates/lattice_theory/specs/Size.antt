@@ -13,6 +13,6 @@ size zero points = 0
 size (suc n) points = size n points + reach points n
 
 -- the sum of the absolute values of the entries of one vector
-abbrev pub weight : List ℤ → ℕ
-weight [] = 0
-weight (a ∷ x) = nat_abs a + weight x
+abbrev pub absolute_sum : List ℤ → ℕ
+absolute_sum [] = 0
+absolute_sum (a ∷ x) = nat_abs a + absolute_sum x

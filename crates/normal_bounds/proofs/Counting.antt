@@ -3,7 +3,7 @@ use Rattle.std.proofs.Common.{◌≡◌, ◌≢◌, ℕ, zero, suc, ◌*◌, ◌
 use Rattle.std.proofs.lemmas.Int.{ints}
 use Rattle.std.proofs.Math.Nat.{pow-zero, pow-succ'}
 use Rattle.lattice_theory.specs.Vector.{entry, dot}
-use Rattle.lattice_theory.specs.Size.{weight}
+use Rattle.lattice_theory.specs.Size.{absolute_sum}
 use Rattle.elimination.specs.Elimination.{Annihilates}
 use Rattle.normal_bounds.specs.Bounds.{EntriesWithin}
 use Rattle.normal_bounds.specs.Laws.{CountingBound}
@@ -25,7 +25,7 @@ agreement_more : {w : List ℤ} {ws xs : List (List ℤ)} {n : ℕ} (c : Crowd (
 agreement_more c r = record { members = r.members; among = among_among r.among c.among; many = r.many; same = more (c.value, each_among r.among c.same) r.same }
 
 -- one vector after another, on a list that shrinks
-agreement : (T M : ℕ) (mask : List Bool) (ws xs : List (List ℤ)) → Each (λ w. weight w ≤ T) ws → Each (Inside M mask) xs → suc (T * M) ^ length ws < length xs → Agreement ws xs
+agreement : (T M : ℕ) (mask : List Bool) (ws xs : List (List ℤ)) → Each (λ w. absolute_sum w ≤ T) ws → Each (Inside M mask) xs → suc (T * M) ^ length ws < length xs → Agreement ws xs
 agreement T M mask [] xs hs ps l = record { members = xs; among = among_itself xs; many = let e = pow-zero (suc (T * M)) in omega arith; same = empty }
 agreement T M mask (w ∷ ws) xs hs ps l =
     let e = pow-succ' (suc (T * M)) (length ws) in
@@ -116,8 +116,8 @@ found_from [] l d ps z = absurd (omega arith)
 found_from (x ∷ []) l d ps z = absurd (omega arith)
 found_from (x ∷ (y ∷ xs)) l (one_more n d) ps z = (difference x y, found_from_two x y (each_head n) (each_head ps) (each_head (each_tail ps)) (difference_kills z))
 
--- fewer vectors of weight at most T than free places
-pub found : (T : ℕ) (mask : List Bool) (ws : List (List ℤ)) → 1 ≤ T → Each (λ w. weight w ≤ T) ws → length ws < free_places mask → (x : List ℤ) × IsFound (T ^ length ws) mask ws x
+-- fewer vectors of absolute sum at most T than free places
+pub found : (T : ℕ) (mask : List Bool) (ws : List (List ℤ)) → 1 ≤ T → Each (λ w. absolute_sum w ≤ T) ws → length ws < free_places mask → (x : List ℤ) × IsFound (T ^ length ws) mask ws x
 found T mask ws t hs l =
     let M = T ^ length ws in
     let e = length-box M mask in
@@ -149,6 +149,6 @@ counting_from T {k = k} {x = x} e f = (f.dimension ∙ length-all_free (suc k), 
 pub counting_bound_lem : CountingBound
 counting_bound_lem k T vectors t e h =
     let w = free-all_free (suc k) in
-    let f = found T (all_free (suc k)) vectors t (each_from_all (λ v. weight v ≤ T) vectors h) (omega arith) in
+    let f = found T (all_free (suc k)) vectors t (each_from_all (λ v. absolute_sum v ≤ T) vectors h) (omega arith) in
     let r = counting_from T e f.1 in
     (f.0, r.0, r.1, r.2, r.3)

@@ -1,10 +1,10 @@
--- A worked example: the points (2, 0) and (-1, 1) of the plane have weight 2 and fix the function x + 3y - 2. Its entries 1 and 3 are at most 4.
+-- A worked example: the points (2, 0) and (-1, 1) of the plane have absolute sum 2 and fix the function x + 3y - 2. Its entries 1 and 3 are at most 4.
 use Rattle.std.proofs.Common.{◌≡◌, ◌≤◌, List, [], ◌∷◌, length, ℤ, pos, negsuc, ◌+ℤ◌, ◌*ℤ◌, nat_abs, refl, ap₂, arith}
 use Rattle.std.proofs.lemmas.Int.{ints}
 use Rattle.std.proofs.lemmas.List.Elements.{All-nil, All-cons, All-head, All-tail}
 use Rattle.lattice_theory.specs.Vector.{dot}
 use Rattle.lattice_theory.specs.Affine.{Affine, value, IsMultiple}
-use Rattle.lattice_theory.specs.Size.{weight}
+use Rattle.lattice_theory.specs.Size.{absolute_sum}
 use Rattle.normal_bounds.specs.Bounds.{EntriesWithin, IsFixedBy}
 use Rattle.lattice_theory.proofs.Integers.{linear}
 use Rattle.elimination.proofs.Divisibility.{primitive_from_combination}
@@ -54,7 +54,7 @@ fixed_by = record {
 }
 
 -- what the law says of it
-pub example_bound : EntriesWithin 4 f.normal × (nat_abs f.constant ≤ 8) × ((x : List ℤ) → weight x ≤ 2 → nat_abs (value f x) ≤ 16)
+pub example_bound : EntriesWithin 4 f.normal × (nat_abs f.constant ≤ 8) × ((x : List ℤ) → absolute_sum x ≤ 2 → nat_abs (value f x) ≤ 16)
 example_bound = normal_bound_lem 1 2 (p ∷ (q ∷ [])) f (omega arith) refl
     (All-cons (λ x. length x ≡ 2) p (q ∷ []) refl (All-cons (λ x. length x ≡ 2) q [] refl (All-nil (λ x. length x ≡ 2))))
-    (All-cons (λ x. weight x ≤ 2) p (q ∷ []) (omega arith) (All-cons (λ x. weight x ≤ 2) q [] (omega arith) (All-nil (λ x. weight x ≤ 2)))) fixed_by
+    (All-cons (λ x. absolute_sum x ≤ 2) p (q ∷ []) (omega arith) (All-cons (λ x. absolute_sum x ≤ 2) q [] (omega arith) (All-nil (λ x. absolute_sum x ≤ 2)))) fixed_by

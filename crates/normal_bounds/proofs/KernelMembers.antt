@@ -3,7 +3,7 @@ use Rattle.std.proofs.Common.{◌≡◌, ℕ, zero, suc, ◌+◌, ◌^◌, ◌<�
 use Rattle.std.proofs.lemmas.List.{length-append}
 use Rattle.std.proofs.Math.Nat.{mul-le-mul_left, pow-suc}
 use Rattle.lattice_theory.specs.Vector.{entry, dot, IsPrimitive}
-use Rattle.lattice_theory.specs.Size.{weight}
+use Rattle.lattice_theory.specs.Size.{absolute_sum}
 use Rattle.elimination.specs.Elimination.{Member, IsKernel, ArePivots}
 use Rattle.elimination.specs.Laws.{IsVectorMultiple}
 use Rattle.normal_bounds.specs.Bounds.{EntriesWithin}
@@ -94,14 +94,14 @@ fewer_pivots : (m j : ℕ) (before : List Member) (k : Member) (after : List Mem
 fewer_pivots m j before k after e = let f = free-mask_of m (before ++ after) in let a = length-append before (k ∷ after) in let b = length-append before after in omega arith
 
 -- the entries of a member
-member_entries : (m T : ℕ) (vectors pivots : List (List ℤ)) (ks : List Member) (k : Member) → 1 ≤ T → ArePivots m vectors pivots ks → All (λ v. weight v ≤ T) pivots → Split k ks → IsPrimitive k.vector → EntriesWithin (T ^ length pivots) k.vector
+member_entries : (m T : ℕ) (vectors pivots : List (List ℤ)) (ks : List Member) (k : Member) → 1 ≤ T → ArePivots m vectors pivots ks → All (λ v. absolute_sum v ≤ T) pivots → Split k ks → IsPrimitive k.vector → EntriesWithin (T ^ length pivots) k.vector
 member_entries m T vectors pivots ks k t hp hs s p =
-    let f = found T (mask_of m (s.before ++ s.after)) pivots t (each_from_all (λ v. weight v ≤ T) pivots hs)
+    let f = found T (mask_of m (s.before ++ s.after)) pivots t (each_from_all (λ v. absolute_sum v ≤ T) pivots hs)
     (fewer_pivots m (length pivots) s.before k s.after (ap (λ (ls : List Member). length pivots + length ls) (sym s.same) ∙ hp.count)) in
     member_from m (T ^ length pivots) pivots s.before k s.after f.0 (subst (IsKernel m pivots) s.same hp.kernel) p f.1
 
--- a pairing with a vector of weight at most T
-value_within : (T j : ℕ) (x v : List ℤ) → EntriesWithin (T ^ j) x → weight v ≤ T → nat_abs (dot x v) ≤ T ^ (j + 1)
+-- a pairing with a vector of absolute sum at most T
+value_within : (T j : ℕ) (x v : List ℤ) → EntriesWithin (T ^ j) x → absolute_sum v ≤ T → nat_abs (dot x v) ≤ T ^ (j + 1)
 value_within T j x v h l = let e = pairing_bound_lem (T ^ j) x v h in let f = mul-le-mul_left (T ^ j) l in let g = pow-suc T j in let i : T ^ (j + 1) ≡ T ^ suc j = ap (λ (n : ℕ). T ^ n) (next j) in omega arith
   where
     next : (n : ℕ) → n + 1 ≡ suc n

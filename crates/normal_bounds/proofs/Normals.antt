@@ -5,7 +5,7 @@ use Rattle.std.proofs.lemmas.List.{length-map}
 use Rattle.std.proofs.Math.Nat.{mul-le-mul_left, mul-le-mul_right, pow-suc}
 use Rattle.lattice_theory.specs.Vector.{entry, dot, scaled, IsPrimitive}
 use Rattle.lattice_theory.specs.Affine.{Affine, value, IsMultiple}
-use Rattle.lattice_theory.specs.Size.{weight}
+use Rattle.lattice_theory.specs.Size.{absolute_sum}
 use Rattle.elimination.specs.Elimination.{Annihilates}
 use Rattle.normal_bounds.specs.Bounds.{EntriesWithin, IsFixedBy}
 use Rattle.normal_bounds.specs.Laws.{NormalBound}
@@ -14,7 +14,7 @@ use Rattle.lattice_theory.proofs.Members.{Each, empty, more, each_head, each_tai
 use Rattle.elimination.proofs.Vectors.{combined, entry-combined, entry-scaled, dot-combined_right, zero_from_entries}
 use Rattle.elimination.proofs.Divisibility.{multiple_of_primitive}
 use Rattle.normal_bounds.proofs.Counting.{counting_bound_lem}
-use Rattle.normal_bounds.proofs.Sizes.{abs_product, pairing_bound_lem, difference_weight_lem}
+use Rattle.normal_bounds.proofs.Sizes.{abs_product, pairing_bound_lem, difference_absolute_sum_lem}
 
 -- a factor other than 0 doesn't make an absolute value smaller
 factor_within : (k a : ℤ) → k ≢ pos 0 → nat_abs a ≤ nat_abs (k *ℤ a)
@@ -40,17 +40,17 @@ primitive_within bound q p x f n h e z b = let s = multiple_of_primitive q p x f
 abbrev pub step_from : List ℤ → List ℤ → List ℤ
 step_from p q = combined (pos 1) q (negsuc 0) p
 
--- its weight
-step_weight : (S : ℕ) (p q : List ℤ) → weight p ≤ S → weight q ≤ S → weight (step_from p q) ≤ 2 * S
-step_weight S p q h k = let e = difference_weight_lem q p (step_from p q) (λ i. entry-combined (pos 1) q (negsuc 0) p i ∙ as_difference (entry q i) (entry p i)) in omega arith
+-- its absolute sum
+step_absolute_sum : (S : ℕ) (p q : List ℤ) → absolute_sum p ≤ S → absolute_sum q ≤ S → absolute_sum (step_from p q) ≤ 2 * S
+step_absolute_sum S p q h k = let e = difference_absolute_sum_lem q p (step_from p q) (λ i. entry-combined (pos 1) q (negsuc 0) p i ∙ as_difference (entry q i) (entry p i)) in omega arith
   where
     as_difference : (a b : ℤ) → pos 1 *ℤ a +ℤ negsuc 0 *ℤ b ≡ a -ℤ b
     as_difference a b = omega (arith, ints)
 
 -- of all points
-steps_weight : (S : ℕ) (p : List ℤ) {ps : List (List ℤ)} → weight p ≤ S → Each (λ q. weight q ≤ S) ps → Each (λ w. weight w ≤ 2 * S) (map (step_from p) ps)
-steps_weight S p h empty = empty
-steps_weight S p h (more {x = q} k ks) = more (step_weight S p q h k) (steps_weight S p h ks)
+steps_absolute_sum : (S : ℕ) (p : List ℤ) {ps : List (List ℤ)} → absolute_sum p ≤ S → Each (λ q. absolute_sum q ≤ S) ps → Each (λ w. absolute_sum w ≤ 2 * S) (map (step_from p) ps)
+steps_absolute_sum S p h empty = empty
+steps_absolute_sum S p h (more {x = q} k ks) = more (step_absolute_sum S p q h k) (steps_absolute_sum S p h ks)
 
 -- the function through a point with a given normal
 abbrev through : List ℤ → List ℤ → Affine
@@ -68,10 +68,10 @@ through_vanishes x p (q ∷ ps) (more e es) = more (vanishes (dot x q) (dot x p)
 pub record IsBounded (k S : ℕ) (f : Affine) : Type 0 where
   pub normal : EntriesWithin ((2 * S) ^ k) f.normal
   pub constant : nat_abs f.constant ≤ (2 * S) ^ k * S
-  pub values : (q : List ℤ) → weight q ≤ S → nat_abs (value f q) ≤ (2 * S) ^ suc k
+  pub values : (q : List ℤ) → absolute_sum q ≤ S → nat_abs (value f q) ≤ (2 * S) ^ suc k
 
 -- the constant is the negative of the pairing at a point, and a value the pairing with a difference
-bounded_from : (k S : ℕ) (f : Affine) (p : List ℤ) → value f p ≡ pos 0 → weight p ≤ S → EntriesWithin ((2 * S) ^ k) f.normal → IsBounded k S f
+bounded_from : (k S : ℕ) (f : Affine) (p : List ℤ) → value f p ≡ pos 0 → absolute_sum p ≤ S → EntriesWithin ((2 * S) ^ k) f.normal → IsBounded k S f
 bounded_from k S f p e h b = record {
   normal = b;
   constant = let u = pairing_bound_lem ((2 * S) ^ k) f.normal p b in let w = mul-le-mul_left ((2 * S) ^ k) h in let v = opposite (dot f.normal p) f.constant e in omega arith;
@@ -84,10 +84,10 @@ bounded_from k S f p e h b = record {
     as_step : (a b c : ℤ) → b +ℤ c ≡ pos 0 → pos 1 *ℤ a +ℤ negsuc 0 *ℤ b ≡ a +ℤ c
     as_step a b c u = omega (arith, ints)
 
-    value_within : (q : List ℤ) → weight q ≤ S → nat_abs (value f q) ≤ (2 * S) ^ suc k
+    value_within : (q : List ℤ) → absolute_sum q ≤ S → nat_abs (value f q) ≤ (2 * S) ^ suc k
     value_within q l =
         let u = pairing_bound_lem ((2 * S) ^ k) f.normal (step_from p q) b in
-        let w = mul-le-mul_left ((2 * S) ^ k) (step_weight S p q h l) in
+        let w = mul-le-mul_left ((2 * S) ^ k) (step_absolute_sum S p q h l) in
         let v = ap nat_abs (dot-combined_right f.normal (pos 1) q (negsuc 0) p ∙ as_step (dot f.normal q) (dot f.normal p) f.constant e) in
         let s = pow-suc (2 * S) k in
         omega arith
@@ -104,8 +104,8 @@ normal_from k S p ps f x s l n a b = by (s.determined (through x p) l (all_from_
     by m = primitive_within ((2 * S) ^ k) m.left m.right x f.normal m.nonzero s.primitive m.normals n b
 
 -- for points with a first one
-bounded : (k S : ℕ) (p : List ℤ) (ps : List (List ℤ)) (f : Affine) → 1 ≤ S → length ps ≡ k → Each (λ q. weight q ≤ S) (p ∷ ps) → IsFixedBy (suc k) (p ∷ ps) f → IsBounded k S f
-bounded k S p ps f t e h s = by (counting_bound_lem k (2 * S) steps (omega arith) (length-map ps (step_from p) ∙ e) (all_from_each (steps_weight S p (each_head h) (each_tail h))))
+bounded : (k S : ℕ) (p : List ℤ) (ps : List (List ℤ)) (f : Affine) → 1 ≤ S → length ps ≡ k → Each (λ q. absolute_sum q ≤ S) (p ∷ ps) → IsFixedBy (suc k) (p ∷ ps) f → IsBounded k S f
+bounded k S p ps f t e h s = by (counting_bound_lem k (2 * S) steps (omega arith) (length-map ps (step_from p) ∙ e) (all_from_each (steps_absolute_sum S p (each_head h) (each_tail h))))
   where
     steps : List (List ℤ)
     steps = map (step_from p) ps
@@ -117,4 +117,4 @@ bounded k S p ps f t e h s = by (counting_bound_lem k (2 * S) steps (omega arith
 -- the law
 pub normal_bound_lem : NormalBound
 normal_bound_lem k S [] f t e d h s = absurd (omega arith)
-normal_bound_lem k S (p ∷ ps) f t e d h s = let b = bounded k S p ps f t (omega arith) (each_from_all (λ q. weight q ≤ S) (p ∷ ps) h) s in (b.normal, b.constant, b.values)
+normal_bound_lem k S (p ∷ ps) f t e d h s = let b = bounded k S p ps f t (omega arith) (each_from_all (λ q. absolute_sum q ≤ S) (p ∷ ps) h) s in (b.normal, b.constant, b.values)

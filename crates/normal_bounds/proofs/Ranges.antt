@@ -1,10 +1,10 @@
--- The values of a pairing on a box: those of <w, x> lie in a range of M times w's weight, which begins at -M times the weight of w's negative entries.
+-- The values of a pairing on a box: those of <w, x> lie in a range of M times w's absolute sum, which begins at -M times the absolute sum of w's negative entries.
 use Rattle.std.proofs.Common.{◌≡◌, ℕ, zero, suc, ◌+◌, ◌*◌, ◌^◌, ◌<◌, ◌≤◌, List, [], ◌∷◌, Bool, ℤ, pos, negsuc, ◌+ℤ◌, ◌*ℤ◌, nat_abs, refl, ap, arith}
 use Rattle.std.proofs.lemmas.Int.{ints}
 use Rattle.std.proofs.lemmas.Nat.{mul-pow}
 use Rattle.std.proofs.Math.Nat.{mul-le-mul_left, pow-le-pow_left, pow-le-pow_right, one-le-pow, pow-succ'}
 use Rattle.lattice_theory.specs.Vector.{dot}
-use Rattle.lattice_theory.specs.Size.{weight}
+use Rattle.lattice_theory.specs.Size.{absolute_sum}
 use Rattle.lattice_theory.proofs.Integers.{linear}
 use Rattle.lattice_theory.proofs.Members.{Each, empty, more}
 use Rattle.normal_bounds.proofs.Boxes.{Inside, nothing, free, fixed}
@@ -80,21 +80,21 @@ range_dot M (a ∷ w) nothing = record { place = range_low M (a ∷ w); below = 
 range_dot M (a ∷ w) (free n l h) = range_sum (range_product M n a l) (range_dot M w h)
 range_dot M (a ∷ w) (fixed h) = range_sum (range_product M 0 a (omega arith)) (range_dot M w h)
 
--- the length is M times the weight
-length_by_weight : (M : ℕ) (w : List ℤ) → range_length M w ≡ M * weight w
-length_by_weight M [] = omega arith
-length_by_weight M (a ∷ w) = let e = length_by_weight M w in omega arith
+-- the length is M times the absolute sum
+length_by_absolute_sum : (M : ℕ) (w : List ℤ) → range_length M w ≡ M * absolute_sum w
+length_by_absolute_sum M [] = omega arith
+length_by_absolute_sum M (a ∷ w) = let e = length_by_absolute_sum M w in omega arith
 
--- for weight at most T it is one of T M + 1 numbers
-dot_one_of : (T M : ℕ) (w : List ℤ) {mask : List Bool} {x : List ℤ} → weight w ≤ T → Inside M mask x → IsOneOf (suc (T * M)) (pos (range_low M w)) (dot w x)
+-- for absolute sum at most T it is one of T M + 1 numbers
+dot_one_of : (T M : ℕ) (w : List ℤ) {mask : List Bool} {x : List ℤ} → absolute_sum w ≤ T → Inside M mask x → IsOneOf (suc (T * M)) (pos (range_low M w)) (dot w x)
 dot_one_of T M w l h = let r = range_dot M w h in record {
   place = r.place;
-  below = let b = r.below in let e = length_by_weight M w in let f = mul-le-mul_left M l in omega arith;
+  below = let b = r.below in let e = length_by_absolute_sum M w in let f = mul-le-mul_left M l in omega arith;
   same = r.same;
 }
 
 -- for all vectors of a box
-pub dots_one_of : (T M : ℕ) (mask : List Bool) (w : List ℤ) → weight w ≤ T → {xs : List (List ℤ)} → Each (Inside M mask) xs → Each (λ x. IsOneOf (suc (T * M)) (pos (range_low M w)) (dot w x)) xs
+pub dots_one_of : (T M : ℕ) (mask : List Bool) (w : List ℤ) → absolute_sum w ≤ T → {xs : List (List ℤ)} → Each (Inside M mask) xs → Each (λ x. IsOneOf (suc (T * M)) (pos (range_low M w)) (dot w x)) xs
 dots_one_of T M mask w l empty = empty
 dots_one_of T M mask w l (more {x = x} p ps) = more (dot_one_of T M w l p) (dots_one_of T M mask w l ps)
 

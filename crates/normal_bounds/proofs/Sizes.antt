@@ -1,13 +1,13 @@
--- Weights: of points within a size, of differences, and the bound that they give a pairing.
+-- Absolute sums: of points within a size, of differences, and the bound that they give a pairing.
 use Rattle.std.proofs.Common.{◌≡◌, ℕ, zero, suc, ◌+◌, ◌*◌, ◌<◌, ◌≤◌, List, [], ◌∷◌, length, ℤ, pos, negsuc, ◌+ℤ◌, ◌-ℤ◌, ◌*ℤ◌, nat_abs, ⊎_elim, refl, sym, ap, ◌∙◌, subst, All, arith}
 use Rattle.std.proofs.lemmas.Int.{ints}
 use Rattle.std.proofs.lemmas.Bool.{cases_lt}
 use Rattle.std.proofs.lemmas.List.{get_or_default}
 use Rattle.std.proofs.Math.Nat.{mul-le-mul_right}
 use Rattle.lattice_theory.specs.Vector.{entry, dot}
-use Rattle.lattice_theory.specs.Size.{size, weight}
+use Rattle.lattice_theory.specs.Size.{size, absolute_sum}
 use Rattle.normal_bounds.specs.Bounds.{EntriesWithin}
-use Rattle.normal_bounds.specs.Laws.{PairingBound, PointWeight, DifferenceWeight}
+use Rattle.normal_bounds.specs.Laws.{PairingBound, PointAbsoluteSum, DifferenceAbsoluteSum}
 use Rattle.elimination.proofs.Vectors.{entry_past}
 use Rattle.lattice_theory.proofs.Members.{In, each_from_all, all_from_each, each_from_in, each_in}
 use Rattle.lattice_theory.proofs.Sizes.{within_reach}
@@ -42,7 +42,7 @@ product_and_sum bound a b d w h k = let e = abs_product a b in let f = mul-le-mu
 pub pairing_bound_lem : PairingBound
 pairing_bound_lem bound [] y h = omega (arith, ints)
 pairing_bound_lem bound (a ∷ x) [] h = omega (arith, ints)
-pairing_bound_lem bound (a ∷ x) (b ∷ y) h = product_and_sum bound a b (dot x y) (weight y) (h 0) (pairing_bound_lem bound x y (λ i. h (suc i)))
+pairing_bound_lem bound (a ∷ x) (b ∷ y) h = product_and_sum bound a b (dot x y) (absolute_sum y) (h 0) (pairing_bound_lem bound x y (λ i. h (suc i)))
 
 -- the sum of the first n absolute values
 abbrev first_sum : ℕ → List ℤ → ℕ
@@ -54,10 +54,10 @@ first_sum-cons : (n : ℕ) (a : ℤ) (x : List ℤ) → first_sum (suc n) (a ∷
 first_sum-cons zero a x = omega arith
 first_sum-cons (suc n) a x = let e = first_sum-cons n a x in omega arith
 
--- all of them together are the weight
-weight_sum : (x : List ℤ) → weight x ≡ first_sum (length x) x
-weight_sum [] = refl
-weight_sum (a ∷ x) = ap (λ (n : ℕ). nat_abs a + n) (weight_sum x) ∙ sym (first_sum-cons (length x) a x)
+-- all of them together are the absolute sum
+absolute_sum_sum : (x : List ℤ) → absolute_sum x ≡ first_sum (length x) x
+absolute_sum_sum [] = refl
+absolute_sum_sum (a ∷ x) = ap (λ (n : ℕ). nat_abs a + n) (absolute_sum_sum x) ∙ sym (first_sum-cons (length x) a x)
 
 -- so no sum is above the sum of the largest
 sum_within_size : {p : List ℤ} (n : ℕ) (points : List (List ℤ)) → In p points → first_sum n p ≤ size n points
@@ -65,21 +65,21 @@ sum_within_size zero points m = omega arith
 sum_within_size (suc n) points m = let e = sum_within_size n points m in let f = within_reach points n m in omega arith
 
 -- a point of n coordinates
-weight_within_size : {p : List ℤ} (n : ℕ) (points : List (List ℤ)) → length p ≡ n → In p points → weight p ≤ size n points
-weight_within_size {p = p} n points e m = let f = weight_sum p in let g = ap (λ (k : ℕ). first_sum k p) e in let h = sum_within_size n points m in omega arith
+absolute_sum_within_size : {p : List ℤ} (n : ℕ) (points : List (List ℤ)) → length p ≡ n → In p points → absolute_sum p ≤ size n points
+absolute_sum_within_size {p = p} n points e m = let f = absolute_sum_sum p in let g = ap (λ (k : ℕ). first_sum k p) e in let h = sum_within_size n points m in omega arith
 
 -- the law on points
-pub point_weight_lem : PointWeight
-point_weight_lem n points d = all_from_each (each_from_in points (λ p m. weight_within_size n points (each_in (each_from_all (λ q. length q ≡ n) points d) m) m))
+pub point_absolute_sum_lem : PointAbsoluteSum
+point_absolute_sum_lem n points d = all_from_each (each_from_in points (λ p m. absolute_sum_within_size n points (each_in (each_from_all (λ q. length q ≡ n) points d) m) m))
 
 -- one more entry of a difference
-weight_more : (a b c : ℤ) (p q w : ℕ) → c ≡ a -ℤ b → w ≤ p + q → nat_abs c + w ≤ (nat_abs a + p) + (nat_abs b + q)
-weight_more a b c p q w e h = omega (arith, ints)
+absolute_sum_more : (a b c : ℤ) (p q w : ℕ) → c ≡ a -ℤ b → w ≤ p + q → nat_abs c + w ≤ (nat_abs a + p) + (nat_abs b + q)
+absolute_sum_more a b c p q w e h = omega (arith, ints)
 
 -- the law on differences
-pub difference_weight_lem : DifferenceWeight
-difference_weight_lem p q [] h = omega arith
-difference_weight_lem [] [] (c ∷ w) h = weight_more (pos 0) (pos 0) c 0 0 (weight w) (h 0) (difference_weight_lem [] [] w (λ i. h (suc i)))
-difference_weight_lem [] (b ∷ q) (c ∷ w) h = weight_more (pos 0) b c 0 (weight q) (weight w) (h 0) (difference_weight_lem [] q w (λ i. h (suc i)))
-difference_weight_lem (a ∷ p) [] (c ∷ w) h = weight_more a (pos 0) c (weight p) 0 (weight w) (h 0) (difference_weight_lem p [] w (λ i. h (suc i)))
-difference_weight_lem (a ∷ p) (b ∷ q) (c ∷ w) h = weight_more a b c (weight p) (weight q) (weight w) (h 0) (difference_weight_lem p q w (λ i. h (suc i)))
+pub difference_absolute_sum_lem : DifferenceAbsoluteSum
+difference_absolute_sum_lem p q [] h = omega arith
+difference_absolute_sum_lem [] [] (c ∷ w) h = absolute_sum_more (pos 0) (pos 0) c 0 0 (absolute_sum w) (h 0) (difference_absolute_sum_lem [] [] w (λ i. h (suc i)))
+difference_absolute_sum_lem [] (b ∷ q) (c ∷ w) h = absolute_sum_more (pos 0) b c 0 (absolute_sum q) (absolute_sum w) (h 0) (difference_absolute_sum_lem [] q w (λ i. h (suc i)))
+difference_absolute_sum_lem (a ∷ p) [] (c ∷ w) h = absolute_sum_more a (pos 0) c (absolute_sum p) 0 (absolute_sum w) (h 0) (difference_absolute_sum_lem p [] w (λ i. h (suc i)))
+difference_absolute_sum_lem (a ∷ p) (b ∷ q) (c ∷ w) h = absolute_sum_more a b c (absolute_sum p) (absolute_sum q) (absolute_sum w) (h 0) (difference_absolute_sum_lem p q w (λ i. h (suc i)))

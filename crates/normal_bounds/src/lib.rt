@@ -1,6 +1,6 @@
 //! How large the normals of hyperplanes through lattice points are, in every dimension, and the numbers that elimination meets on its way.
 //!
-//! The bounds come by counting: among the vectors with entries from 0 to T^k two have the same pairings with k given vectors of weight T, and
+//! The bounds come by counting: among the vectors with entries from 0 to T^k two have the same pairings with k given vectors of absolute sum T, and
 //! their difference pairs to 0 with all of these. So a function that is fixed by n points, or a member of a kernel, is no larger than such a
 //! difference. The crate stands on `lattice_theory` (vectors, affine functions, sizes) and `elimination` (kernels), and computes nothing.
 //!
@@ -9,4 +9,4 @@
 
 pub mod bounds;
 pub mod fits;
-pub mod weights;
+pub mod absolute_sums;

@@ -5,13 +5,13 @@ use Rattle.std.proofs.Common.{◌≡◌, ℕ, zero, suc, ◌^◌, ◌≤◌, Lis
 use Rattle.std.proofs.lemmas.List.Elements.{All-contains, All-weaker, All-contains_itself}
 use Rattle.lattice_theory.specs.Vector.{HaveDimension}
 use Rattle.lattice_theory.specs.Affine.{Affine}
-use Rattle.lattice_theory.specs.Size.{size, weight}
+use Rattle.lattice_theory.specs.Size.{size, absolute_sum}
 use Rattle.lattice_theory.specs.Facet.{IsFacet, AreFacetsInAnyOrder}
 use Rattle.facet_theory.specs.Laws.{AreSolid}
 use Rattle.facet_theory.proofs.FacetPoints.{facet_by_points_lem}
 use Rattle.normal_bounds.specs.Bounds.{IsFixedBy}
 use Rattle.normal_bounds.proofs.Products.{functions_fit_lem}
-use Rattle.normal_bounds.proofs.Sizes.{point_weight_lem}
+use Rattle.normal_bounds.proofs.Sizes.{point_absolute_sum_lem}
 use Rattle.lattice_core.specs.Limits.{size_limit_of, IsSized}
 use Rattle.lattice_core.proofs.SizeLimits.{limit_positive}
 
@@ -20,11 +20,11 @@ constant_small : (n : ℕ) (points : List (List ℤ)) (f : Affine) → AreSolid 
 constant_small zero points f solid few small facet = absurd (let h = solid.coordinates in omega arith)
 constant_small (suc k) points f solid few small facet =
     let (on, count, inside, vanishes, determined) = facet_by_points_lem (suc k) points solid f facet in
-    let heavy = point_weight_lem (suc k) points solid.dimension in
+    let heavy = point_absolute_sum_lem (suc k) points solid.dimension in
     let dimensions : HaveDimension (suc k) on = All-weaker (Contains on) (λ p. length p ≡ suc k)
     (λ p c. All-contains (λ q. length q ≡ suc k) points p solid.dimension (inside p c)) on (All-contains_itself on) in
-    let light : All (λ p. weight p ≤ size_limit_of (suc k)) on = All-weaker (Contains on) (λ p. weight p ≤ size_limit_of (suc k))
-    (λ p c. let w = All-contains (λ q. weight q ≤ size (suc k) points) points p heavy (inside p c) in omega arith) on (All-contains_itself on) in
+    let light : All (λ p. absolute_sum p ≤ size_limit_of (suc k)) on = All-weaker (Contains on) (λ p. absolute_sum p ≤ size_limit_of (suc k))
+    (λ p c. let w = All-contains (λ q. absolute_sum q ≤ size (suc k) points) points p heavy (inside p c) in omega arith) on (All-contains_itself on) in
     let by : IsFixedBy (suc k) on f = record { dimension = facet.dimension; primitive = facet.primitive; vanishes = vanishes; determined = determined } in
     let fits = functions_fit_lem k (size_limit_of (suc k)) on f (limit_positive (suc k) (omega arith) few) (omega arith) count dimensions light by in
     omega (arith, fits.1)

@@ -8,7 +8,7 @@ use Rattle.std.proofs.lemmas.Int.{ints, unsigned_abs-mul}
 use Rattle.std.proofs.Math.Nat.{mul-le-mul_right, mul-le-mul_left}
 use Rattle.lattice_theory.specs.Vector.{entry, dot}
 use Rattle.lattice_theory.specs.Affine.{Affine, value_over}
-use Rattle.lattice_theory.specs.Size.{weight}
+use Rattle.lattice_theory.specs.Size.{absolute_sum}
 use Rattle.lattice_theory.proofs.Integers.{products_out, linear, product_nonnegative, *ℤ-+ℤ, *ℤ-zero, neg-*ℤ, *ℤ-neg}
 use Rattle.lattice_theory.proofs.Members.{In, here, there, in_from_contains}
 use Rattle.point_scan.specs.Boxes.{IsInBox, AgreesTo}
@@ -16,10 +16,10 @@ use Rattle.point_scan.specs.Dilates.{IsNegativeAlong, IsRuledOut}
 use Rattle.point_scan.proofs.Steps.{same_below}
 
 -- an entry is no larger than all together
-pub entry_weight : (x : List ℤ) (i : ℕ) → nat_abs (entry x i) ≤ weight x
-entry_weight [] i = omega (arith, ints)
-entry_weight (a ∷ x) zero = omega arith
-entry_weight (a ∷ x) (suc i) = let e = entry_weight x i in omega arith
+pub entry_absolute_sum : (x : List ℤ) (i : ℕ) → nat_abs (entry x i) ≤ absolute_sum x
+entry_absolute_sum [] i = omega (arith, ints)
+entry_absolute_sum (a ∷ x) zero = omega arith
+entry_absolute_sum (a ∷ x) (suc i) = let e = entry_absolute_sum x i in omega arith
 
 -- one term that changes
 change : (a p v d : ℤ) → a *ℤ p +ℤ d ≡ (a *ℤ v +ℤ d) +ℤ a *ℤ (p -ℤ v)

@@ -3,7 +3,7 @@ pub mod Steps
 pub mod Walks
 pub mod Values
 pub mod Reaches
-pub mod Weights
+pub mod AbsoluteSums
 pub mod Constants
 pub mod DilatePoints
 pub mod Passes

@@ -3,7 +3,7 @@
 ghost use Rattle.std.specs.Prelude.{◌≡◌, ◌^◌, ◌≤◌, length, ℕ, ℤ, pos, true, ◌-ℤ◌, ◌*ℤ◌, ◌≤ℤ◌, ◌<ℤ◌, nat_abs, IfNone, IfSome};
 ghost use Rattle.std.specs.List.{All};
 ghost use Rattle.lattice_theory.specs.Affine.{value_over as value_over_of};
-ghost use Rattle.lattice_theory.specs.Size.{weight};
+ghost use Rattle.lattice_theory.specs.Size.{absolute_sum};
 ghost use Rattle.point_scan.specs.Boxes.{IsInBox};
 ghost use Rattle.point_scan.specs.Dilates.{is_inside as is_inside_of, IsNegativeAlong, IsRuledOut};
 
@@ -15,7 +15,7 @@ fn value_over(f: &Functional, dilate: u32, position: &[i64]) -> i128
     requires dimension { length f.now.normal ≡ length position.now }
     requires constant { nat_abs f.now.constant ≤ 2 ^ 100 }
     requires most { length position.now ≤ 6 }
-    requires small { weight position.now ≤ 2 ^ 33 }
+    requires small { absolute_sum position.now ≤ 2 ^ 33 }
     requires dilate { dilate ≤ 7 }
     ensures value { result ≡ value_over_of f.now position.now (pos dilate) }
     ensures bound { nat_abs result ≤ 2 ^ 110 }
@@ -42,8 +42,8 @@ fn gain(factor: i64, low: i64, high: i64, x: i64) -> i128
 fn fewest_kept(f: &Functional, walk: &Walk, value: i128) -> usize
     requires inside { IsInBox walk.now.low.items walk.now.high.items walk.now.position.items }
     requires dimension { length f.now.normal ≡ length walk.now.position.items }
-    requires small_low { weight walk.now.low.items ≤ 2 ^ 33 }
-    requires small_high { weight walk.now.high.items ≤ 2 ^ 33 }
+    requires small_low { absolute_sum walk.now.low.items ≤ 2 ^ 33 }
+    requires small_high { absolute_sum walk.now.high.items ≤ 2 ^ 33 }
     requires negative { value <ℤ pos 0 }
     requires bound { nat_abs value ≤ 2 ^ 110 }
     ensures { (j : ℕ) → value ≡ value_over_of f.now walk.now.position.items (pos j)
@@ -70,9 +70,9 @@ pub(crate) fn ruled_out(facets: &[Functional], dilate: u32, walk: &Walk) -> Opti
     requires dimension { All (λ f. length f.normal ≡ length walk.now.position.items) facets.now }
     requires constants { All (λ f. nat_abs f.constant ≤ 2 ^ 100) facets.now }
     requires most { length walk.now.position.items ≤ 6 }
-    requires small { weight walk.now.position.items ≤ 2 ^ 33 }
-    requires small_low { weight walk.now.low.items ≤ 2 ^ 33 }
-    requires small_high { weight walk.now.high.items ≤ 2 ^ 33 }
+    requires small { absolute_sum walk.now.position.items ≤ 2 ^ 33 }
+    requires small_low { absolute_sum walk.now.low.items ≤ 2 ^ 33 }
+    requires small_high { absolute_sum walk.now.high.items ≤ 2 ^ 33 }
     requires dilate { dilate ≤ 7 }
     ensures none { IfNone result (is_inside_of facets.now dilate walk.now.position.items ≡ true) }
     ensures some { IfSome result (IsRuledOut facets.now dilate walk.now.low.items walk.now.high.items walk.now.position.items) }

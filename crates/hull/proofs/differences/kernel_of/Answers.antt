@@ -1,13 +1,13 @@
 use Rattle.std.proofs.Common.{◌≡◌, ◌*◌, ◌≤◌, ◌^◌, length, take, sym, ap, ◌∙◌, subst, arith}
 use Rattle.std.proofs.lemmas.List.Elements.{All-contains, All-take}
 use Rattle.std.proofs.lemmas.List.{take_all}
-use Rattle.lattice_theory.specs.Size.{weight}
+use Rattle.lattice_theory.specs.Size.{absolute_sum}
 use Rattle.lattice_core.specs.Limits.{size_limit_of}
 use Rattle.lattice_core.specs.Dimensions.{dimension_of}
 use Rattle.hull.specs.Differences.{difference, differences}
 use Rattle.hull.specs.Kernels.{IsPrimitiveKernel, IsSmallKernel}
 use Rattle.hull.proofs.Kernels.{members_entries}
-use Rattle.hull.proofs.Vectors.{length-difference, weight-difference, points_small, points_bound, others_of, others_all, others_length, differences_are, small_kernel, next_kernel, first_length, from}
+use Rattle.hull.proofs.Vectors.{length-difference, absolute_sum-difference, points_small, points_bound, others_of, others_all, others_length, differences_are, small_kernel, next_kernel, first_length, from}
 use Rattle.hull.proofs.differences.kernel_of.Goals as goal
 use Rattle.hull.proofs.differences.kernel_of.Goals.{After-dim, After-as_slice-in-loop-p, After-loop-p}
 
@@ -17,11 +17,11 @@ first_dimension c = first_length (dimension_of c.args.points.now) c.args.points.
 
 pub point_difference-requires-clause-small_p : goal.point_difference-requires-clause-small_p
 point_difference-requires-clause-small_p c =
-    All-contains (λ p. weight p ≤ 2 ^ 30) (others_of c.args.points.now) c.p-item.result (others_all (λ p. weight p ≤ 2 ^ 30) c.args.points.now (points_bound (dimension_of c.args.points.now) c.args.points.now c.requires.one_dimension c.requires.within)) (c.loop-p.p-index, c.loop-p-test.true, sym c.p-item.is)
+    All-contains (λ p. absolute_sum p ≤ 2 ^ 30) (others_of c.args.points.now) c.p-item.result (others_all (λ p. absolute_sum p ≤ 2 ^ 30) c.args.points.now (points_bound (dimension_of c.args.points.now) c.args.points.now c.requires.one_dimension c.requires.within)) (c.loop-p.p-index, c.loop-p-test.true, sym c.p-item.is)
 
 pub point_difference-requires-clause-small_q : goal.point_difference-requires-clause-small_q
 point_difference-requires-clause-small_q c =
-    All-contains (λ p. weight p ≤ 2 ^ 30) c.args.points.now c.index-points-0.result (points_bound (dimension_of c.args.points.now) c.args.points.now c.requires.one_dimension c.requires.within) (0, c.requires.some, sym c.index-points-0.is)
+    All-contains (λ p. absolute_sum p ≤ 2 ^ 30) c.args.points.now c.index-points-0.result (points_bound (dimension_of c.args.points.now) c.args.points.now c.requires.one_dimension c.requires.within) (0, c.requires.some, sym c.index-points-0.is)
 
 -- the length of this turn's point
 point_dimension : (c : After-as_slice-in-loop-p) → length c.p-item.result ≡ dimension_of c.args.points.now
@@ -44,9 +44,9 @@ kernel_with-kernel-requires-clause-kernel c =
     let first = first_length n c.args.points.now c.index-points-0.result c.requires.one_dimension c.requires.some c.index-points-0.is in
     let small = points_small n c.args.points.now c.requires.one_dimension c.requires.within in
     small_kernel n c.index-points-0.result (take c.loop-p.p-index (others_of c.args.points.now)) c.loop-p.kernel.items c.as_slice.result.now c.as_slice-in-loop-p.result.now first
-    (All-contains (λ p. weight p ≤ size_limit_of n) c.args.points.now c.index-points-0.result small (0, c.requires.some, sym c.index-points-0.is))
+    (All-contains (λ p. absolute_sum p ≤ size_limit_of n) c.args.points.now c.index-points-0.result small (0, c.requires.some, sym c.index-points-0.is))
     (All-take (λ p. length p ≡ n) c.loop-p.p-index (others_of c.args.points.now) (others_all (λ p. length p ≡ n) c.args.points.now c.requires.one_dimension))
-    (All-take (λ p. weight p ≤ size_limit_of n) c.loop-p.p-index (others_of c.args.points.now) (others_all (λ p. weight p ≤ size_limit_of n) c.args.points.now small))
+    (All-take (λ p. absolute_sum p ≤ size_limit_of n) c.loop-p.p-index (others_of c.args.points.now) (others_all (λ p. absolute_sum p ≤ size_limit_of n) c.args.points.now small))
     (subst (λ m. IsPrimitiveKernel m (from c.index-points-0.result (take c.loop-p.p-index (others_of c.args.points.now))) c.loop-p.kernel.items) first c.loop-p.invariant.kernel) c.as_slice.ensures.value (turn_length c)
 
 pub kernel_with-kernel-requires-clause-some : goal.kernel_with-kernel-requires-clause-some
@@ -57,9 +57,9 @@ kernel_with-kernel-requires-clause-small c =
     let n = dimension_of c.args.points.now in
     let first = first_length n c.args.points.now c.index-points-0.result c.requires.one_dimension c.requires.some c.index-points-0.is in
     let small = points_small n c.args.points.now c.requires.one_dimension c.requires.within in
-    subst (λ m. weight c.as_slice-in-loop-p.result.now ≤ 2 * size_limit_of m) (sym (turn_length c)) (rw (turn_difference c) (weight-difference c.p-item.result c.index-points-0.result (size_limit_of n) (point_dimension c ∙ sym first)
-    (All-contains (λ p. weight p ≤ size_limit_of n) (others_of c.args.points.now) c.p-item.result (others_all (λ p. weight p ≤ size_limit_of n) c.args.points.now small) (c.loop-p.p-index, c.loop-p-test.true, sym c.p-item.is))
-    (All-contains (λ p. weight p ≤ size_limit_of n) c.args.points.now c.index-points-0.result small (0, c.requires.some, sym c.index-points-0.is))))
+    subst (λ m. absolute_sum c.as_slice-in-loop-p.result.now ≤ 2 * size_limit_of m) (sym (turn_length c)) (rw (turn_difference c) (absolute_sum-difference c.p-item.result c.index-points-0.result (size_limit_of n) (point_dimension c ∙ sym first)
+    (All-contains (λ p. absolute_sum p ≤ size_limit_of n) (others_of c.args.points.now) c.p-item.result (others_all (λ p. absolute_sum p ≤ size_limit_of n) c.args.points.now small) (c.loop-p.p-index, c.loop-p-test.true, sym c.p-item.is))
+    (All-contains (λ p. absolute_sum p ≤ size_limit_of n) c.args.points.now c.index-points-0.result small (0, c.requires.some, sym c.index-points-0.is))))
 
 pub loop-p-preserved : goal.loop-p-preserved
 loop-p-preserved c =
@@ -93,9 +93,9 @@ returns-clause-entries c =
     let all : take c.loop-p.p-index (others_of c.args.points.now) ≡ others_of c.args.points.now = take_all c.loop-p.p-index (others_of c.args.points.now) c.loop-p-test.false in
     members_entries n c.loop-p.kernel.items (omega arith) (omega arith)
     (subst (λ m. IsSmallKernel m c.loop-p.kernel.items) first (small_kernel n c.index-points-0.result (take c.loop-p.p-index (others_of c.args.points.now)) c.loop-p.kernel.items c.loop-p.kernel.items c.index-points-0.result first
-    (All-contains (λ p. weight p ≤ size_limit_of n) c.args.points.now c.index-points-0.result small (0, c.requires.some, sym c.index-points-0.is))
+    (All-contains (λ p. absolute_sum p ≤ size_limit_of n) c.args.points.now c.index-points-0.result small (0, c.requires.some, sym c.index-points-0.is))
     (All-take (λ p. length p ≡ n) c.loop-p.p-index (others_of c.args.points.now) (others_all (λ p. length p ≡ n) c.args.points.now c.requires.one_dimension))
-    (All-take (λ p. weight p ≤ size_limit_of n) c.loop-p.p-index (others_of c.args.points.now) (others_all (λ p. weight p ≤ size_limit_of n) c.args.points.now small))
+    (All-take (λ p. absolute_sum p ≤ size_limit_of n) c.loop-p.p-index (others_of c.args.points.now) (others_all (λ p. absolute_sum p ≤ size_limit_of n) c.args.points.now small))
     (subst (λ m. IsPrimitiveKernel m (from c.index-points-0.result (take c.loop-p.p-index (others_of c.args.points.now))) c.loop-p.kernel.items) first c.loop-p.invariant.kernel) (λ i. c.loop-p.kernel.items) first))
 
 pub returns-clause-count : goal.returns-clause-count

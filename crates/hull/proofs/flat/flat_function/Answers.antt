@@ -2,7 +2,7 @@ use Rattle.std.proofs.Common.{◌≡◌, ◌≤◌, ◌^◌, length, neg_ℤ, sy
 use Rattle.std.proofs.lemmas.Bool.Decides.{nat_tests}
 use Rattle.std.proofs.lemmas.List.Elements.{All-contains}
 use Rattle.lattice_theory.specs.Vector.{dot}
-use Rattle.lattice_theory.specs.Size.{weight}
+use Rattle.lattice_theory.specs.Size.{absolute_sum}
 use Rattle.lattice_core.specs.Dimensions.{dimension_of}
 use Rattle.hull.specs.Differences.{differences}
 use Rattle.hull.specs.Kernels.{IsPrimitiveKernel}
@@ -22,7 +22,7 @@ function_at-requires-clause-entries c =
 
 pub function_at-requires-clause-small : goal.function_at-requires-clause-small
 function_at-requires-clause-small c =
-    All-contains (λ p. weight p ≤ 2 ^ 30) c.args.points.now c.index-points-0.result (points_bound (dimension_of c.args.points.now) c.args.points.now c.requires.one_dimension c.requires.within) (0, c.requires.some, sym c.index-points-0.is)
+    All-contains (λ p. absolute_sum p ≤ 2 ^ 30) c.args.points.now c.index-points-0.result (points_bound (dimension_of c.args.points.now) c.args.points.now c.requires.one_dimension c.requires.within) (0, c.requires.some, sym c.index-points-0.is)
 
 pub returns : goal.returns
 returns c =

@@ -4,7 +4,7 @@ use Rattle.std.specs.List.{All}
 use Rattle.std.proofs.lemmas.Bool.{true≢false}
 use Rattle.std.proofs.lemmas.List.Elements.{All-contains}
 use Rattle.lattice_theory.specs.Vector.{dot}
-use Rattle.lattice_theory.specs.Size.{weight}
+use Rattle.lattice_theory.specs.Size.{absolute_sum}
 use Rattle.normal_bounds.specs.Bounds.{IsFixedBy}
 use Rattle.lattice_core.specs.Dimensions.{dimension_of}
 use Rattle.hull.specs.Hyperplanes.{StartsPositive}
@@ -42,7 +42,7 @@ function_at-function-requires-clause-entries c =
 
 pub function_at-function-requires-clause-small : goal.function_at-function-requires-clause-small
 function_at-function-requires-clause-small c =
-    All-contains (λ p. weight p ≤ 2 ^ 30) c.args.points.now c.index-points-0.result (points_bound (dimension_of c.args.points.now) c.args.points.now c.requires.one_dimension c.requires.within) (0, c.requires.some, sym c.index-points-0.is)
+    All-contains (λ p. absolute_sum p ≤ 2 ^ 30) c.args.points.now c.index-points-0.result (points_bound (dimension_of c.args.points.now) c.args.points.now c.requires.one_dimension c.requires.within) (0, c.requires.some, sym c.index-points-0.is)
 
 pub opposite-requires-clause-entries : goal.opposite-requires-clause-entries
 opposite-requires-clause-entries c =

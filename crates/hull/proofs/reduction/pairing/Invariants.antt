@@ -1,11 +1,11 @@
 use Rattle.std.proofs.Common.{◌≡◌, ◌+◌, ◌*◌, ◌^◌, ◌≤◌, ◌+ℤ◌, drop}
 use Rattle.std.specs.Prelude.{nat_abs}
 use Rattle.lattice_theory.specs.Vector.{dot}
-use Rattle.lattice_theory.specs.Size.{weight}
+use Rattle.lattice_theory.specs.Size.{absolute_sum}
 use Rattle.hull.proofs.reduction.pairing.Given as goal
 
 abbrev pub invariant-loop-i : goal.invariant-loop-i
 invariant-loop-i l = record {
   sum : l.sum +ℤ dot (drop l.i l.k) (drop l.i l.v) ≡ dot l.k l.v;
-  bound : nat_abs l.sum + 2 ^ 63 * weight (drop l.i l.v) ≤ 2 ^ 63 * weight l.v;
+  bound : nat_abs l.sum + 2 ^ 63 * absolute_sum (drop l.i l.v) ≤ 2 ^ 63 * absolute_sum l.v;
 }

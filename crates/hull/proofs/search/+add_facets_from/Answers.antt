@@ -2,13 +2,13 @@ use Rattle.std.proofs.Common.{◌≡◌, ◌+◌, ◌*◌, ◌<◌, ◌≤◌, �
 use Rattle.std.specs.List.{All}
 use Rattle.std.proofs.lemmas.List.Elements.{All-contains}
 use Rattle.lattice_theory.specs.Vector.{dot}
-use Rattle.lattice_theory.specs.Size.{weight}
+use Rattle.lattice_theory.specs.Size.{absolute_sum}
 use Rattle.lattice_core.specs.Limits.{size_limit_of}
 use Rattle.elimination.specs.Elimination.{Member}
 use Rattle.hull.specs.Differences.{difference}
 use Rattle.hull.specs.Kernels.{IsPrimitiveKernel, IsSmallKernel}
 use Rattle.hull.specs.Search.{IsKernelOfPoints, IsReached, AddsFacets}
-use Rattle.hull.proofs.Vectors.{points_bound, points_small, length-difference, weight-difference}
+use Rattle.hull.proofs.Vectors.{points_bound, points_small, length-difference, absolute_sum-difference}
 use Rattle.hull.proofs.Finding.{HasAdded, small_of_points, kernel_of_points_next, added_same, added_more, added_all}
 use Rattle.hull.proofs.search.+add_facets_from.Goals as goal
 use Rattle.hull.proofs.search.+add_facets_from.Goals.{After-as_slice, in-Some+in_ok-add_facets_from, in_default}
@@ -39,10 +39,10 @@ turn_kernel t c next k =
     subst (λ n. IsPrimitiveKernel n (vs ++ (c.as_slice.result.now ∷ [])) next) l (k vs (subst (λ n. IsPrimitiveKernel n vs c.args.kernel.now) (sym l) c.requires.kernel.is_kernel))
 
 pub point_difference-requires-clause-small_p : goal.point_difference-requires-clause-small_p
-point_difference-requires-clause-small_p t c = All-contains (λ p. weight p ≤ 2 ^ 30) c.args.points.now c.index-points-i.result (points_bound (length c.args.first.now) c.args.points.now c.requires.dimension c.requires.within) (c.loop-i.i, c.loop-i-test.true, sym c.index-points-i.is)
+point_difference-requires-clause-small_p t c = All-contains (λ p. absolute_sum p ≤ 2 ^ 30) c.args.points.now c.index-points-i.result (points_bound (length c.args.first.now) c.args.points.now c.requires.dimension c.requires.within) (c.loop-i.i, c.loop-i-test.true, sym c.index-points-i.is)
 
 pub point_difference-requires-clause-small_q : goal.point_difference-requires-clause-small_q
-point_difference-requires-clause-small_q t c = All-contains (λ p. weight p ≤ 2 ^ 30) c.args.points.now c.args.first.now (points_bound (length c.args.first.now) c.args.points.now c.requires.dimension c.requires.within) c.requires.member
+point_difference-requires-clause-small_q t c = All-contains (λ p. absolute_sum p ≤ 2 ^ 30) c.args.points.now c.args.first.now (points_bound (length c.args.first.now) c.args.points.now c.requires.dimension c.requires.within) c.requires.member
 
 pub changed_kernel-requires-clause-kernel : goal.changed_kernel-requires-clause-kernel
 changed_kernel-requires-clause-kernel t c =
@@ -55,9 +55,9 @@ pub changed_kernel-requires-clause-small : goal.changed_kernel-requires-clause-s
 changed_kernel-requires-clause-small t c =
     let n = length c.args.first.now in
     let small = points_small n c.args.points.now c.requires.dimension c.requires.within in
-    subst (λ m. weight c.as_slice.result.now ≤ 2 * size_limit_of m) (sym (turn_length t c)) (rw (turn_difference t c) (weight-difference c.index-points-i.result c.args.first.now (size_limit_of n) (turn_dimension t c)
-    (All-contains (λ p. weight p ≤ size_limit_of n) c.args.points.now c.index-points-i.result small (turn_member t c))
-    (All-contains (λ p. weight p ≤ size_limit_of n) c.args.points.now c.args.first.now small c.requires.member)))
+    subst (λ m. absolute_sum c.as_slice.result.now ≤ 2 * size_limit_of m) (sym (turn_length t c)) (rw (turn_difference t c) (absolute_sum-difference c.index-points-i.result c.args.first.now (size_limit_of n) (turn_dimension t c)
+    (All-contains (λ p. absolute_sum p ≤ size_limit_of n) c.args.points.now c.index-points-i.result small (turn_member t c))
+    (All-contains (λ p. absolute_sum p ≤ size_limit_of n) c.args.points.now c.args.first.now small c.requires.member)))
 
 pub add_facets_from-requires : goal.add_facets_from-requires
 add_facets_from-requires t c =

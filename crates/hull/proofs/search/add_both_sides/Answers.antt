@@ -3,7 +3,7 @@ use Rattle.std.specs.Prelude.{nat_abs}
 use Rattle.std.specs.List.{All}
 use Rattle.std.proofs.lemmas.List.Elements.{All-contains, All-weaker}
 use Rattle.lattice_theory.specs.Vector.{dot}
-use Rattle.lattice_theory.specs.Size.{weight}
+use Rattle.lattice_theory.specs.Size.{absolute_sum}
 use Rattle.elimination.proofs.Vectors.{length-scaled}
 use Rattle.hull.proofs.Vectors.{points_bound}
 use Rattle.hull.proofs.Finding.{leaf_adds, leaf_entries}
@@ -17,7 +17,7 @@ pub function_at-function-requires-clause-entries : goal.function_at-function-req
 function_at-function-requires-clause-entries c = subst (All (λ a. nat_abs a < 2 ^ 63)) (sym c.vector.ensures) (leaf_entries c.args.points.now c.args.first.now c.args.member.now c.requires.least c.requires.most c.requires.dimension c.requires.within c.requires.member c.requires.kernel)
 
 pub function_at-function-requires-clause-small : goal.function_at-function-requires-clause-small
-function_at-function-requires-clause-small c = All-contains (λ p. weight p ≤ 2 ^ 30) c.args.points.now c.args.first.now (points_bound (length c.args.first.now) c.args.points.now c.requires.dimension c.requires.within) c.requires.member
+function_at-function-requires-clause-small c = All-contains (λ p. absolute_sum p ≤ 2 ^ 30) c.args.points.now c.args.first.now (points_bound (length c.args.first.now) c.args.points.now c.requires.dimension c.requires.within) c.requires.member
 
 pub opposite-other-requires-clause-entries : goal.opposite-other-requires-clause-entries
 opposite-other-requires-clause-entries c = subst (All (λ a. nat_abs a < 2 ^ 63)) (sym (c.function_at-function.ensures.normal ∙ c.vector.ensures)) (leaf_entries c.args.points.now c.args.first.now c.args.member.now c.requires.least c.requires.most c.requires.dimension c.requires.within c.requires.member c.requires.kernel)

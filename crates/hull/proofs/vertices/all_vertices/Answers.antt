@@ -2,7 +2,7 @@ use Rattle.std.proofs.Common.{◌≤◌, ◌^◌, List, ℤ, ap, sym, subst, ◌
 use Rattle.std.proofs.lemmas.Bool.{true≢false}
 use Rattle.std.proofs.lemmas.List.{take_all}
 use Rattle.std.proofs.lemmas.List.Elements.{All-contains}
-use Rattle.lattice_theory.specs.Size.{weight}
+use Rattle.lattice_theory.specs.Size.{absolute_sum}
 use Rattle.lattice_core.specs.Dimensions.{dimension_of}
 use Rattle.hull.proofs.Vectors.{points_bound}
 use Rattle.hull.proofs.VertexSearch.{facets_constants, vertex_alone, HasVertices, turn_added, turn_kept, vertices_dimension, vertices_listed}
@@ -21,7 +21,7 @@ is_vertex-requires-clause-constants c = facets_constants (dimension_of c.args.po
 
 pub is_vertex-requires-clause-small_v : goal.is_vertex-requires-clause-small_v
 is_vertex-requires-clause-small_v c =
-    All-contains (λ p. weight p ≤ 2 ^ 30) c.args.points.now c.v-item.result (points_bound (dimension_of c.args.points.now) c.args.points.now c.requires.one_dimension c.requires.within) (is_point c)
+    All-contains (λ p. absolute_sum p ≤ 2 ^ 30) c.args.points.now c.v-item.result (points_bound (dimension_of c.args.points.now) c.args.points.now c.requires.one_dimension c.requires.within) (is_point c)
 
 pub loop-v-preserved : goal.loop-v-preserved
 loop-v-preserved c =

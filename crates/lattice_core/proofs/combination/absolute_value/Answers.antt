@@ -3,7 +3,7 @@ use Rattle.std.specs.Prelude.{nat_abs}
 use Rattle.std.specs.Int.{w128}
 use Rattle.std.proofs.lemmas.Int.{ints, to_z-of_z, fits_signed_from_abs}
 use Rattle.lattice_theory.specs.Affine.{value}
-use Rattle.lattice_core.proofs.Combinations.{normal_weight, value_small, value_is}
+use Rattle.lattice_core.proofs.Combinations.{normal_absolute_sum, value_small, value_is}
 use Rattle.lattice_core.proofs.combination.absolute_value.Goals as goal
 use Rattle.lattice_core.proofs.combination.absolute_value.Goals.{After-constant}
 use Rattle.lattice_core.proofs.Widths.{small_fits}
@@ -11,7 +11,7 @@ use Rattle.lattice_core.proofs.Widths.{small_fits}
 pub wide_pair-pairing-requires-clause-small : goal.wide_pair-pairing-requires-clause-small
 wide_pair-pairing-requires-clause-small c =
     let most = subst (λ xs. length xs ≤ 6) c.entries.ensures.value c.entries.ensures.most in
-    rw c.normal.ensures.value (normal_weight (length c.args.p.now) c.args.f.now.normal most c.requires.dimension c.requires.entries)
+    rw c.normal.ensures.value (normal_absolute_sum (length c.args.p.now) c.args.f.now.normal most c.requires.dimension c.requires.entries)
 
 -- the sum of the two parts is the value
 total_is : (c : After-constant) → c.wide_pair-pairing.result +ℤ c.constant.result ≡ value c.args.f.now c.args.p.now

@@ -4,9 +4,9 @@ use Rattle.std.proofs.Common.{◌≡◌, ◌≤◌, ◌<◌, ◌+◌, ◌-◌, �
 use Rattle.std.specs.Int.{w128}
 use Rattle.std.proofs.lemmas.Int.{ints, to_z-of_z}
 use Rattle.lattice_theory.specs.Vector.{entry}
-use Rattle.lattice_theory.specs.Size.{weight}
+use Rattle.lattice_theory.specs.Size.{absolute_sum}
 use Rattle.point_scan.specs.Boxes.{IsInBox}
-use Rattle.point_scan.proofs.Gains.{entry_weight, start_bound, bound_more, negative_along}
+use Rattle.point_scan.proofs.Gains.{entry_absolute_sum, start_bound, bound_more, negative_along}
 use Rattle.point_scan.proofs.inside.fewest_kept.Goals as goal
 use Rattle.point_scan.proofs.inside.fewest_kept.Goals.{After-position-position}
 
@@ -28,14 +28,14 @@ loop-i-init c = record {
 pub gain-best-requires-clause-small_low : goal.gain-best-requires-clause-small_low
 gain-best-requires-clause-small_low c =
     let fits : SFits w64 (entry c.low-low.result.now (c.loop-i.i - 1)) = search rules in
-    let all : weight c.low-low.result.now ≤ 2 ^ 33 = rw c.low-low.ensures c.requires.small_low in
-    simp to_z-of_z (omega (arith, entry_weight c.low-low.result.now (c.loop-i.i - 1), all))
+    let all : absolute_sum c.low-low.result.now ≤ 2 ^ 33 = rw c.low-low.ensures c.requires.small_low in
+    simp to_z-of_z (omega (arith, entry_absolute_sum c.low-low.result.now (c.loop-i.i - 1), all))
 
 pub gain-best-requires-clause-small_high : goal.gain-best-requires-clause-small_high
 gain-best-requires-clause-small_high c =
     let fits : SFits w64 (entry c.high-high.result.now (c.loop-i.i - 1)) = search rules in
-    let all : weight c.high-high.result.now ≤ 2 ^ 33 = rw c.high-high.ensures c.requires.small_high in
-    simp to_z-of_z (omega (arith, entry_weight c.high-high.result.now (c.loop-i.i - 1), all))
+    let all : absolute_sum c.high-high.result.now ≤ 2 ^ 33 = rw c.high-high.ensures c.requires.small_high in
+    simp to_z-of_z (omega (arith, entry_absolute_sum c.high-high.result.now (c.loop-i.i - 1), all))
 
 pub returns-then-best-ge0 : goal.returns-then-best-ge0
 returns-then-best-ge0 c = λ j same.

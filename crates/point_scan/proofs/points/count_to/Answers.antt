@@ -7,7 +7,7 @@ use Rattle.lattice_core.specs.Dimensions.{dimension_of}
 use Rattle.point_scan.specs.Dilates.{is_inside}
 use Rattle.point_scan.proofs.Walks.{IsPast, at_start, past_kept, past_moved, advanced, finished, more, moved}
 use Rattle.point_scan.proofs.Passes.{past_passed}
-use Rattle.point_scan.proofs.Weights.{corner_in_box, corners_moved, low_small, high_small, position_small}
+use Rattle.point_scan.proofs.AbsoluteSums.{corner_in_box, corners_moved, low_small, high_small, position_small}
 use Rattle.point_scan.proofs.Constants.{constants_small}
 use Rattle.point_scan.proofs.DilatePoints.{inside_are_dilate_points}
 use Rattle.point_scan.proofs.points.count_to.Goals as goal
