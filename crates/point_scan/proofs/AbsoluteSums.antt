@@ -8,7 +8,8 @@ use Rattle.lattice_theory.specs.Size.{reach, size, absolute_sum}
 use Rattle.lattice_theory.proofs.Integers.{linear, product_nonnegative, *ℤ-+ℤ, between_small}
 use Rattle.lattice_core.specs.Limits.{IsSized}
 use Rattle.lattice_core.proofs.SizeLimits.{limit_bound}
-use Rattle.point_scan.specs.Boxes.{AreCorners, IsInBox}
+use Rattle.lattice_theory.specs.Grid.{IsInBox}
+use Rattle.point_scan.specs.ScanSteps.{AreCorners}
 
 -- the absolute sum of a vector whose entries are within j times the reaches from the coordinate k on
 absolute_sum_from : (points : List (List ℤ)) (j k m : ℕ) (x : List ℤ) → m ≡ k + length x

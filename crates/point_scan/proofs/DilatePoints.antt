@@ -17,10 +17,11 @@ use Rattle.facet_theory.proofs.Signs.{nonnegative_same, nonnegative_from}
 use Rattle.facet_theory.proofs.Coordinates.{above_low, below_high, length-above_low, length-below_high, above_low-over, below_high-over, above_low-value, below_high-value}
 use Rattle.facet_theory.proofs.Generate.{facets_generate_lem}
 use Rattle.facet_theory.proofs.Hull.{sum_nonnegative, hull_by_facets_lem}
-use Rattle.point_scan.specs.Boxes.{grid, IsInBox, IsSpan, AreCorners}
-use Rattle.point_scan.specs.Dilates.{is_inside, AreDilatePoints}
+use Rattle.lattice_theory.specs.Grid.{grid, IsInBox}
+use Rattle.lattice_theory.proofs.GridLists.{grid_lists}
+use Rattle.point_scan.specs.ScanSteps.{IsSpan, AreCorners, is_inside}
+use Rattle.point_scan.specs.Dilates.{AreDilatePoints}
 use Rattle.lattice_theory.proofs.Sublists.{in_filter, from_filter, ascends_filter, each_passes, all_pass}
-use Rattle.point_scan.proofs.Grids.{from_grid, in_grid, ascends_grid}
 
 -- inside, as a test and as a fact
 test_of : (z : ℤ) → pos 0 ≤ℤ z → int_le (pos 0) z ≡ true
@@ -52,7 +53,7 @@ module _ (n : ℕ) (points : List (List ℤ)) (solid : AreSolid n points) (j : �
 
   module _ (low high : List ℤ) (corners : AreCorners n points j low high) where
     -- so the dilate lies in the box
-    dilate_in_box : (x : List ℤ) → IsDilatePoint n points j x → IsInBox low high x
+    pub dilate_in_box : (x : List ℤ) → IsDilatePoint n points j x → IsInBox low high x
     dilate_in_box x dilate = record {
       low_dimension = corners.low_dimension ∙ sym dilate.dimension;
       high_dimension = corners.high_dimension ∙ sym dilate.dimension;
@@ -64,29 +65,34 @@ module _ (n : ℕ) (points : List (List ℤ)) (solid : AreSolid n points) (j : �
     }
 
     module _ (facets : List Affine) (are : AreFacetsInAnyOrder n points facets) where
-      -- each of the points that are kept is in the dilate
-      kept_is_dilate : (p : List ℤ) → In p (filter (is_inside facets j) (grid low high)) → IsDilatePoint n points j p
-      kept_is_dilate p i =
-          let kept = from_filter (is_inside facets j) (grid low high) i in
-          let box = from_grid low high p (corners.low_dimension ∙ sym corners.high_dimension) kept.member in
-          let passes = each_passes (λ (f : Affine). int_le (pos 0) (value_over f p (pos j))) facets kept.passes in
+      -- each point of the box that is inside is in the dilate
+      pub inside_is_dilate : (p : List ℤ) → IsInBox low high p → is_inside facets j p ≡ true → IsDilatePoint n points j p
+      inside_is_dilate p box e =
+          let passes = each_passes (λ (f : Affine). int_le (pos 0) (value_over f p (pos j))) facets e in
           record {
             dimension = sym box.low_dimension ∙ corners.low_dimension;
             inside = λ f facet. fact_of (value_over f p (pos j)) (each_in passes (in_from_contains facets ((are f).1 facet)));
           }
 
-      -- each of the dilate is kept
-      dilate_is_kept : (p : List ℤ) → IsDilatePoint n points j p → In p (filter (is_inside facets j) (grid low high))
-      dilate_is_kept p dilate =
-          in_filter (is_inside facets j) (grid low high) (in_grid low high p (dilate_in_box p dilate))
-          (all_pass (λ (f : Affine). int_le (pos 0) (value_over f p (pos j))) facets
-          (each_from_in facets (λ f m. test_of (value_over f p (pos j)) (dilate.inside f ((are f).0 (contains_from_in m))))))
+      -- each of the dilate is inside
+      pub dilate_is_inside : (p : List ℤ) → IsDilatePoint n points j p → is_inside facets j p ≡ true
+      dilate_is_inside p dilate = all_pass (λ (f : Affine). int_le (pos 0) (value_over f p (pos j))) facets
+          (each_from_in facets (λ f m. test_of (value_over f p (pos j)) (dilate.inside f ((are f).0 (contains_from_in m)))))
 
+      -- so these are the dilate's points
       pub inside_are_dilate_points : AreDilatePoints n points j (filter (is_inside facets j) (grid low high))
-      inside_are_dilate_points = record {
-        ascends = ascends_filter LexLess (is_inside facets j) (grid low high) (ascends_grid low high);
-        members = λ p. (λ c. kept_is_dilate p (in_from_contains (filter (is_inside facets j) (grid low high)) c), λ d. contains_from_in (dilate_is_kept p d));
-      }
+      inside_are_dilate_points =
+          let box = grid_lists low high (corners.low_dimension ∙ sym corners.high_dimension) in
+          record {
+            ascends = ascends_filter LexLess (is_inside facets j) (grid low high) box.ascends;
+            members = λ p. (
+              λ c.
+                  let k = from_filter (is_inside facets j) (grid low high) (in_from_contains _ c) in
+                  inside_is_dilate p ((box.members p).0 (contains_from_in k.member)) k.passes,
+              λ d. contains_from_in (in_filter (is_inside facets j) (grid low high)
+                  (in_from_contains _ ((box.members p).1 (dilate_in_box p d))) (dilate_is_inside p d)),
+            );
+          }
 
 -- the first dilate is the hull
 pub lattice_from_dilate : (n : ℕ) (points : List (List ℤ)) → AreSolid n points → (xs : List (List ℤ)) → AreDilatePoints n points 1 xs → AreLatticePoints n points xs

@@ -11,9 +11,9 @@ use Rattle.lattice_theory.specs.Affine.{Affine, value_over}
 use Rattle.lattice_theory.specs.Size.{absolute_sum}
 use Rattle.lattice_theory.proofs.Integers.{products_out, linear, product_nonnegative, *ℤ-+ℤ, *ℤ-zero, neg-*ℤ, *ℤ-neg}
 use Rattle.lattice_theory.proofs.Members.{In, here, there, in_from_contains}
-use Rattle.point_scan.specs.Boxes.{IsInBox, AgreesTo}
-use Rattle.point_scan.specs.Dilates.{IsNegativeAlong, IsRuledOut}
-use Rattle.point_scan.proofs.Steps.{same_below}
+use Rattle.lattice_theory.specs.Grid.{IsInBox, AgreesTo}
+use Rattle.point_scan.specs.ScanSteps.{IsNegativeAlong, IsRuledOut}
+use Rattle.lattice_theory.proofs.LexPlaces.{same_agreeing}
 
 -- an entry is no larger than all together
 pub entry_absolute_sum : (x : List ℤ) (i : ℕ) → nat_abs (entry x i) ≤ absolute_sum x
@@ -78,7 +78,7 @@ pub start_bound : (n low high x p : List ℤ) (v : ℤ) → length n ≡ length 
 start_bound n low high x p v e h k agrees =
     let a = h.low_dimension in
     let b = k.low_dimension in
-    let same : p ≡ x = same_below p x (omega arith) (λ i l. agrees i (omega arith)) in
+    let same : p ≡ x = sym (same_agreeing x p (omega arith) (λ i l. agrees i (omega arith))) in
     rw same (omega (arith, linear))
 
 -- a point of the box with one entry of another

@@ -1,10 +1,8 @@
-pub mod Grids
-pub mod Steps
-pub mod Walks
 pub mod Values
 pub mod Reaches
 pub mod AbsoluteSums
 pub mod Constants
 pub mod DilatePoints
-pub mod Passes
 pub mod Gains
+pub mod ScanWalks
+pub mod RulingOut

@@ -1,3 +1,3 @@
-pub mod Boxes
 pub mod Dilates
+pub mod ScanSteps
 pub mod Faults

@@ -4,8 +4,8 @@ ghost use Rattle.std.specs.Prelude.{◌≡◌, ◌^◌, ◌≤◌, length, ℕ, 
 ghost use Rattle.std.specs.List.{All};
 ghost use Rattle.lattice_theory.specs.Affine.{value_over as value_over_of};
 ghost use Rattle.lattice_theory.specs.Size.{absolute_sum};
-ghost use Rattle.point_scan.specs.Boxes.{IsInBox};
-ghost use Rattle.point_scan.specs.Dilates.{is_inside as is_inside_of, IsNegativeAlong, IsRuledOut};
+ghost use Rattle.lattice_theory.specs.Grid.{IsInBox};
+ghost use Rattle.point_scan.specs.ScanSteps.{is_inside as is_inside_of, IsNegativeAlong, IsRuledOut};
 
 use crate::walk::Walk;
 use lattice_core::{Functional, pair};

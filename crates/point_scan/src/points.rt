@@ -1,21 +1,19 @@
 //! The lattice points of a polytope and of its dilates.
 
-ghost use Rattle.std.specs.Prelude.{◌≡◌, ◌^◌, ◌<◌, ◌≤◌, length, IfOk, IfErr};
-ghost use Rattle.lattice_theory.specs.Vector.{HaveDimension};
-ghost use Rattle.lattice_theory.specs.Facet.{IsFlat, AreFacetsInAnyOrder};
+ghost use Rattle.std.specs.Prelude.{◌≡◌, ◌^◌, ◌≤◌, length, IfOk, IfErr};
+ghost use Rattle.lattice_theory.specs.Facet.{AreFacetsInAnyOrder};
 ghost use Rattle.lattice_theory.specs.Points.{AreLatticePoints};
-ghost use Rattle.lattice_core.specs.Limits.{IsSized};
+ghost use Rattle.lattice_core.specs.declared.limits.TheConstants.{MOST_POINTS};
 ghost use Rattle.lattice_core.specs.Dimensions.{dimension_of};
+ghost use Rattle.lattice_core.specs.PointLists.{AreSolidPoints};
+ghost use Rattle.lattice_core.specs.Stops.{Stops};
 ghost use Rattle.point_scan.specs.Dilates.{CountsDilatePoints};
-ghost use Rattle.point_scan.specs.Faults.{IsScanFault, point_limit};
+ghost use Rattle.point_scan.specs.Faults.{IsPointsRefusal};
 
 use crate::inside::ruled_out;
 use crate::walk::Walk;
-use lattice_core::{Fault, Functional, LimitName, NoMemory, Point, Refusal};
+use lattice_core::{Fault, Functional, LimitName, MOST_POINTS, NoMemory, Point, Refusal};
 use std::alloc::Global;
-
-/// The greatest number of lattice points that a scan gives.
-const MOST_POINTS: usize = 16_384;
 
 /// The point at the position.
 fn point_at(position: &[i64]) -> Point
@@ -33,14 +31,11 @@ fn point_at(position: &[i64]) -> Point
 /// any order. At least one vertex of 1 to 6 coordinates, within the size limit. More than 16,384 lattice points are refused with the number
 /// 16,385, and nothing else is refused; without memory for the answer it is `NoMemory`. Source: math/0204356, section 2.
 pub fn scan(alloc: Global, vertices: &[Point], facets: &[Functional]) -> Result<Vec<Point>, Fault>
-    requires some { 0 < length vertices.now }
-    requires dimension { HaveDimension (dimension_of vertices.now) vertices.now }
-    requires within { IsSized (dimension_of vertices.now) vertices.now }
-    requires solid { IsFlat (dimension_of vertices.now) vertices.now → ⊥ }
+    requires vertices { AreSolidPoints vertices.now }
     requires facets { AreFacetsInAnyOrder (dimension_of vertices.now) vertices.now facets.now }
     ensures points { IfOk result (λ points. AreLatticePoints (dimension_of vertices.now) vertices.now points.items) }
-    ensures few { IfOk result (λ points. length points.items ≤ point_limit) }
-    ensures refused { IfErr result (IsScanFault (dimension_of vertices.now) vertices.now) }
+    ensures few { IfOk result (λ points. length points.items ≤ MOST_POINTS) }
+    ensures refused { IfErr result (Stops (IsPointsRefusal (dimension_of vertices.now) vertices.now)) }
 {
     let mut walk = Walk::start(vertices, 1);
     let mut points = Vec::new(alloc);
@@ -70,10 +65,7 @@ pub fn count_to(
     dilate: u32,
     limit: u64,
 ) -> Result<u64, NoMemory>
-    requires some { 0 < length vertices.now }
-    requires dimension { HaveDimension (dimension_of vertices.now) vertices.now }
-    requires within { IsSized (dimension_of vertices.now) vertices.now }
-    requires solid { IsFlat (dimension_of vertices.now) vertices.now → ⊥ }
+    requires vertices { AreSolidPoints vertices.now }
     requires facets { AreFacetsInAnyOrder (dimension_of vertices.now) vertices.now facets.now }
     requires dilate { dilate ≤ 7 }
     requires limit { limit ≤ 2 ^ 40 }

@@ -2,7 +2,7 @@
 
 ghost use Rattle.std.specs.Prelude.{◌<◌, length};
 ghost use Rattle.std.specs.List.{All};
-ghost use Rattle.point_scan.specs.Boxes.{IsSpan};
+ghost use Rattle.point_scan.specs.ScanSteps.{IsSpan};
 
 use lattice_core::Point;
 

@@ -1,10 +1,11 @@
 //! Walking through the integer points of a box in lexicographic order.
 
-ghost use Rattle.std.specs.Prelude.{◌≡◌, ℕ, ◌^◌, ◌<◌, ◌≤◌, length};
-ghost use Rattle.lattice_theory.specs.Vector.{entry, HaveDimension};
-ghost use Rattle.lattice_theory.specs.Size.{size};
-ghost use Rattle.point_scan.specs.Boxes.{IsInBox, Advances, PassesOver, AgreesTo, AreCorners};
+ghost use Rattle.std.specs.Prelude.{◌≡◌, ℕ, ◌<◌, ◌≤◌, length};
+ghost use Rattle.lattice_theory.specs.Vector.{entry};
+ghost use Rattle.lattice_theory.specs.Grid.{AgreesTo, IsInBox, Follows};
 ghost use Rattle.lattice_core.specs.Dimensions.{dimension_of};
+ghost use Rattle.lattice_core.specs.PointLists.{AreSizedPoints};
+ghost use Rattle.point_scan.specs.ScanSteps.{PassesOver, AreCorners};
 
 use crate::spans::span_of;
 use arrayvec::ArrayVec;
@@ -21,9 +22,7 @@ pub(crate) struct Walk {
 impl Walk {
     /// The walk through the least box that holds each point `dilate` times. It stands at the lowest corner.
     pub(crate) fn start(points: &[Point], dilate: u32) -> Walk
-        requires some { 0 < length points.now }
-        requires dimension { HaveDimension (dimension_of points.now) points.now }
-        requires small { size (dimension_of points.now) points.now ≤ 2 ^ 30 }
+        requires points { AreSizedPoints points.now }
         requires dilate { dilate ≤ 7 }
         ensures least { 1 ≤ dimension_of points.now }
         ensures most { dimension_of points.now ≤ 6 }
@@ -82,7 +81,7 @@ impl Walk {
     /// Moves to the next point of the box, and answers whether there is one. Where there is none, the place is lost.
     pub(crate) fn advance(&mut self) -> bool
         requires { IsInBox self.old.low.items self.old.high.items self.old.position.items }
-        ensures step { Advances self.old.low.items self.old.high.items self.old.position.items self.new.position.items result }
+        ensures step { Follows (IsInBox self.old.low.items self.old.high.items) self.old.position.items self.new.position.items result }
         ensures low { self.new.low.items ≡ self.old.low.items }
         ensures high { self.new.high.items ≡ self.old.high.items }
     {
@@ -97,7 +96,7 @@ impl Walk {
 /// Moves the position to the next point of the box, and answers whether there is one. Where there is none, the position is lost.
 fn advance(low: &[i64], high: &[i64], position: &mut [i64]) -> bool
     requires { IsInBox low.now high.now position.old }
-    ensures { Advances low.now high.now position.old position.new result }
+    ensures { Follows (IsInBox low.now high.now) position.old position.new result }
 {
     for i in (0..position.len()).rev() {
         if position[i] < high[i] {

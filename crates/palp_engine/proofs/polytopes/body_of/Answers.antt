@@ -20,17 +20,10 @@ ready c =
 pub vertices_of-requires-clause-facets : goal.vertices_of-requires-clause-facets
 vertices_of-requires-clause-facets c = rw c.as_slice.ensures.value c.in_ok-facets.ensures.facets.members
 
-pub count_to-requires-clause-some : goal.count_to-requires-clause-some
-count_to-requires-clause-some c = (ready c).some
-
-pub count_to-requires-clause-dimension : goal.count_to-requires-clause-dimension
-count_to-requires-clause-dimension c = (ready c).dimension
-
-pub count_to-requires-clause-within : goal.count_to-requires-clause-within
-count_to-requires-clause-within c = (ready c).within
-
-pub count_to-requires-clause-solid : goal.count_to-requires-clause-solid
-count_to-requires-clause-solid c = (ready c).solid
+pub count_to-requires-clause-vertices : goal.count_to-requires-clause-vertices
+count_to-requires-clause-vertices c =
+    let r = ready c in
+    record { sized = record { are_points = record { some = r.some; one_dimension = r.dimension }; within = r.within }; solid = r.solid }
 
 pub count_to-requires-clause-facets : goal.count_to-requires-clause-facets
 count_to-requires-clause-facets c = (ready c).are_facets

@@ -5,7 +5,7 @@ use Rattle.std.specs.Int.{w128}
 use Rattle.std.proofs.lemmas.Int.{ints, to_z-of_z}
 use Rattle.lattice_theory.specs.Vector.{entry}
 use Rattle.lattice_theory.specs.Size.{absolute_sum}
-use Rattle.point_scan.specs.Boxes.{IsInBox}
+use Rattle.lattice_theory.specs.Grid.{IsInBox}
 use Rattle.point_scan.proofs.Gains.{entry_absolute_sum, start_bound, bound_more, negative_along}
 use Rattle.point_scan.proofs.inside.fewest_kept.Goals as goal
 use Rattle.point_scan.proofs.inside.fewest_kept.Goals.{After-position-position}

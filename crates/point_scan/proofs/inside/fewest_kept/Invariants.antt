@@ -1,6 +1,6 @@
 use Rattle.std.specs.Prelude.{List, ℤ, pos, ◌+ℤ◌, ◌≤ℤ◌, ◌<ℤ◌}
 use Rattle.lattice_theory.specs.Vector.{dot}
-use Rattle.point_scan.specs.Boxes.{IsInBox, AgreesTo}
+use Rattle.lattice_theory.specs.Grid.{IsInBox, AgreesTo}
 use Rattle.point_scan.proofs.inside.fewest_kept.Given as goal
 
 abbrev pub invariant-loop-i : goal.invariant-loop-i

@@ -1,5 +1,5 @@
 use Rattle.std.proofs.Common.{◌≡◌, true, take}
-use Rattle.point_scan.specs.Dilates.{is_inside}
+use Rattle.point_scan.specs.ScanSteps.{is_inside}
 use Rattle.point_scan.proofs.inside.ruled_out.Given as goal
 
 abbrev pub invariant-loop-facet : goal.invariant-loop-facet

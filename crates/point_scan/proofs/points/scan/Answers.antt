@@ -1,103 +1,124 @@
-use Rattle.std.proofs.Common.{◌≤◌, true, false, length, refl, ap, ◌∙◌, subst, arith, [], ◌∷◌, length-append}
-use Rattle.std.specs.List.{filter}
-use Rattle.lattice_theory.specs.Points.{AreLatticePoints}
-use Rattle.facet_theory.specs.Laws.{AreSolid}
-use Rattle.point_scan.specs.Boxes.{grid, AreCorners, Advances}
+use Rattle.std.proofs.Common.{◌≡◌, ◌≤◌, ◌<◌, ◌+◌, true, false, length, refl, sym, ap, ◌∙◌, subst, arith, [], ◌∷◌, ◌++◌, length-append, inr}
+use Rattle.std.specs.Prelude.{List, ℤ}
+use Rattle.lattice_theory.specs.Grid.{LexAtMost, IsInBox, IsNext, Follows}
+use Rattle.lattice_core.specs.declared.limits.TheConstants.{MOST_POINTS}
 use Rattle.lattice_core.specs.Dimensions.{dimension_of}
-use Rattle.point_scan.specs.Dilates.{is_inside}
-use Rattle.point_scan.specs.Faults.{point_limit}
-use Rattle.point_scan.proofs.Walks.{IsPast, at_start, past_kept, past_moved, advanced, finished, more, moved}
-use Rattle.point_scan.proofs.Passes.{past_passed}
-use Rattle.point_scan.proofs.AbsoluteSums.{corner_in_box, corners_moved, low_small, high_small, position_small}
-use Rattle.point_scan.proofs.Constants.{constants_small}
-use Rattle.point_scan.proofs.DilatePoints.{inside_are_dilate_points, lattice_from_dilate}
+use Rattle.facet_theory.specs.Laws.{AreSolid}
+use Rattle.point_scan.proofs.ScanWalks.{IsPast, fewer_moved, at_start, advanced, finished, kept, passed, has_more, at_moved, past_moved}
+use Rattle.point_scan.proofs.RulingOut.{CanRuleOut, can_rule_out}
+use Rattle.point_scan.proofs.AbsoluteSums.{corner_in_box}
+use Rattle.point_scan.proofs.DilatePoints.{lattice_from_dilate}
 use Rattle.point_scan.proofs.points.scan.Goals as goal
-use Rattle.point_scan.proofs.points.scan.Goals.{After-advance, in-Some, in_default+then-len-lt-MOST_POINTS+in_ok-push}
+use Rattle.point_scan.proofs.points.scan.Goals.{After-start-walk, After-advance, in-Some, in_default+then-len-lt-MOST_POINTS+in_ok-push}
+
+-- the vertices are solid
+solid : (c : After-start-walk) → AreSolid (dimension_of c.args.vertices.now) c.args.vertices.now
+solid c = record { coordinates = c.start-walk.ensures.least; dimension = c.requires.vertices.sized.are_points.one_dimension; solid = c.requires.vertices.solid }
 
 pub loop-kept-init : goal.loop-kept-init
 loop-kept-init c =
+    let n = dimension_of c.args.vertices.now in
     let corners = c.start-walk.ensures.corners in
     let low = c.start-walk.result.low.items in
     let high = c.start-walk.result.high.items in
+    let inside = corner_in_box n c.args.vertices.now 1 low high corners in
+    let start = at_start n c.args.vertices.now (solid (goal.at.loop-kept-init c).After-start-walk) 1 low high corners inside in
     let none = c.new-points.ensures.items in
-    record {
-      corners = corners;
-      at = rw (c.start-walk.ensures.position, none) (at_start (is_inside c.args.facets.now 1) low high (corner_in_box (dimension_of c.args.vertices.now) c.args.vertices.now 1 low high corners));
-      few = omega (arith, ap length none);
-    }
+    record { at = rw (c.start-walk.ensures.position, none) start; few = omega (arith, ap length none) }
+
+pub ruled_out-requires-clause-dimension : goal.ruled_out-requires-clause-dimension
+ruled_out-requires-clause-dimension c = (can_rule_out (dimension_of c.args.vertices.now) c.args.vertices.now (solid (goal.at.ruled_out-requires-clause-dimension c).After-start-walk)
+    c.start-walk.ensures.most c.requires.vertices.sized.within c.args.facets.now c.requires.facets 1 (omega arith)
+    c.loop-kept.walk.low.items c.loop-kept.walk.high.items c.loop-kept.walk.position.items c.loop-kept.points.items c.loop-kept.invariant.at).dimension
 
 pub ruled_out-requires-clause-constants : goal.ruled_out-requires-clause-constants
-ruled_out-requires-clause-constants c =
-    let solid : AreSolid (dimension_of c.args.vertices.now) c.args.vertices.now = record { coordinates = c.start-walk.ensures.least; dimension = c.requires.dimension; solid = c.requires.solid } in
-    constants_small (dimension_of c.args.vertices.now) c.args.vertices.now c.args.facets.now solid c.start-walk.ensures.most c.requires.within c.requires.facets
+ruled_out-requires-clause-constants c = (can_rule_out (dimension_of c.args.vertices.now) c.args.vertices.now (solid (goal.at.ruled_out-requires-clause-constants c).After-start-walk)
+    c.start-walk.ensures.most c.requires.vertices.sized.within c.args.facets.now c.requires.facets 1 (omega arith)
+    c.loop-kept.walk.low.items c.loop-kept.walk.high.items c.loop-kept.walk.position.items c.loop-kept.points.items c.loop-kept.invariant.at).constants
 
 pub ruled_out-requires-clause-small : goal.ruled_out-requires-clause-small
-ruled_out-requires-clause-small c =
-    let i = c.loop-kept.invariant in
-    position_small (dimension_of c.args.vertices.now) c.args.vertices.now 1 c.loop-kept.walk.low.items c.loop-kept.walk.high.items c.loop-kept.walk.position.items (omega arith) c.requires.within i.corners i.at.inside
+ruled_out-requires-clause-small c = (can_rule_out (dimension_of c.args.vertices.now) c.args.vertices.now (solid (goal.at.ruled_out-requires-clause-small c).After-start-walk)
+    c.start-walk.ensures.most c.requires.vertices.sized.within c.args.facets.now c.requires.facets 1 (omega arith)
+    c.loop-kept.walk.low.items c.loop-kept.walk.high.items c.loop-kept.walk.position.items c.loop-kept.points.items c.loop-kept.invariant.at).small
 
 pub ruled_out-requires-clause-small_low : goal.ruled_out-requires-clause-small_low
-ruled_out-requires-clause-small_low c = low_small (dimension_of c.args.vertices.now) c.args.vertices.now 1 c.loop-kept.walk.low.items c.loop-kept.walk.high.items (omega arith) c.requires.within c.loop-kept.invariant.corners
+ruled_out-requires-clause-small_low c = (can_rule_out (dimension_of c.args.vertices.now) c.args.vertices.now (solid (goal.at.ruled_out-requires-clause-small_low c).After-start-walk)
+    c.start-walk.ensures.most c.requires.vertices.sized.within c.args.facets.now c.requires.facets 1 (omega arith)
+    c.loop-kept.walk.low.items c.loop-kept.walk.high.items c.loop-kept.walk.position.items c.loop-kept.points.items c.loop-kept.invariant.at).small_low
 
 pub ruled_out-requires-clause-small_high : goal.ruled_out-requires-clause-small_high
-ruled_out-requires-clause-small_high c = high_small (dimension_of c.args.vertices.now) c.args.vertices.now 1 c.loop-kept.walk.low.items c.loop-kept.walk.high.items (omega arith) c.requires.within c.loop-kept.invariant.corners
+ruled_out-requires-clause-small_high c = (can_rule_out (dimension_of c.args.vertices.now) c.args.vertices.now (solid (goal.at.ruled_out-requires-clause-small_high c).After-start-walk)
+    c.start-walk.ensures.most c.requires.vertices.sized.within c.args.facets.now c.requires.facets 1 (omega arith)
+    c.loop-kept.walk.low.items c.loop-kept.walk.high.items c.loop-kept.walk.position.items c.loop-kept.points.items c.loop-kept.invariant.at).small_high
 
 pub returns-else-len-lt-MOST_POINTS-clause-refused : goal.returns-else-len-lt-MOST_POINTS-clause-refused
 returns-else-len-lt-MOST_POINTS-clause-refused c =
     let vertices = c.args.vertices.now in
     let n = dimension_of vertices in
-    let test = is_inside c.args.facets.now 1 in
-    let i = c.loop-kept.invariant in
-    let low = c.loop-kept.walk.low.items in
-    let high = c.loop-kept.walk.high.items in
-    let solid : AreSolid n vertices = record { coordinates = c.start-walk.ensures.least; dimension = c.requires.dimension; solid = c.requires.solid } in
-    let one_more = more test low high c.loop-kept.walk.position.items c.loop-kept.points.items i.at c.in_default.ensures.none in (
+    let s = solid (goal.at.returns-else-len-lt-MOST_POINTS-clause-refused c).After-start-walk in
+    let all = has_more n vertices s 1 c.loop-kept.walk.low.items c.loop-kept.walk.high.items c.args.facets.now c.requires.facets c.loop-kept.walk.position.items
+    c.loop-kept.points.items c.loop-kept.invariant.at c.in_default.ensures.none in
+    let more = all.more in (
       refl,
       refl,
-      record {
-        lattice = filter test (grid low high);
-        are_lattice_points = lattice_from_dilate n vertices solid _ (inside_are_dilate_points n vertices solid 1 low high i.corners c.args.facets.now c.requires.facets);
-        more = omega (arith, one_more);
-      },
+      record { lattice = all.lattice; are_lattice_points = lattice_from_dilate n vertices s all.lattice all.are_dilate_points; more = omega arith },
     )
 
 -- what is known before the step of the walk
 record IsReady (c : After-advance) : Type 0 where
-  corners : AreCorners (dimension_of c.args.vertices.now) c.args.vertices.now 1 c.match-ruled_out.walk.low.items c.match-ruled_out.walk.high.items
-  past : IsPast (is_inside c.args.facets.now 1) c.match-ruled_out.walk.low.items c.match-ruled_out.walk.high.items c.match-ruled_out.walk.position.items c.match-ruled_out.points.items
-  few : length c.match-ruled_out.points.items ≤ point_limit
+  past : IsPast (dimension_of c.args.vertices.now) c.args.vertices.now 1 c.match-ruled_out.walk.low.items c.match-ruled_out.walk.high.items
+      c.match-ruled_out.walk.position.items c.match-ruled_out.points.items
+  later : LexAtMost c.loop-kept.walk.position.items c.match-ruled_out.walk.position.items
+  low_is : c.match-ruled_out.walk.low.items ≡ c.loop-kept.walk.low.items
+  high_is : c.match-ruled_out.walk.high.items ≡ c.loop-kept.walk.high.items
+  few : length c.match-ruled_out.points.items ≤ MOST_POINTS
 
 -- by whether that place is ruled out
 ready : (c : After-advance) → IsReady c
 ready c =
-    let test = is_inside c.args.facets.now 1 in
+    let n = dimension_of c.args.vertices.now in
+    let points = c.args.vertices.now in
+    let s : AreSolid n points = record {
+      coordinates = c.start-walk.ensures.least;
+      dimension = c.requires.vertices.sized.are_points.one_dimension;
+      solid = c.requires.vertices.solid;
+    } in
+    let facets = c.args.facets.now in
     let low = c.loop-kept.walk.low.items in
     let high = c.loop-kept.walk.high.items in
-    let p = c.loop-kept.walk.position.items in
+    let x = c.loop-kept.walk.position.items in
+    let low' = c.match-ruled_out.walk.low.items in
+    let high' = c.match-ruled_out.walk.high.items in
+    let x' = c.match-ruled_out.walk.position.items in
     let i = c.loop-kept.invariant in
+    let found = c.loop-kept.points.items in
     elim c.match-ruled_out.branch [
       | in-Some w ↦
-          let new = w.pass_over.new.self.position.items in
-          let is_low = ap (λ v. v.low.items) w.walk-is ∙ w.pass_over.ensures.low in
-          let is_high = ap (λ v. v.high.items) w.walk-is ∙ w.pass_over.ensures.high in
-          let is_points = ap (λ vs. vs.items) w.points-is in
+          let low_is = ap (λ v. v.low.items) w.walk-is ∙ w.pass_over.ensures.low in
+          let high_is = ap (λ v. v.high.items) w.walk-is ∙ w.pass_over.ensures.high in
+          let x_is = ap (λ v. v.position.items) w.walk-is in
+          let over = passed n points s 1 low high facets c.requires.facets x w.pass_over.new.self.position.items found w.in-Some.kept i.at w.in-Some.ensures.some
+          w.pass_over.ensures.passes in
           record {
-            corners = rw (is_low, is_high) i.corners;
-            past = rw is_points (past_moved test low high new c.match-ruled_out.walk.low.items c.match-ruled_out.walk.high.items c.match-ruled_out.walk.position.items c.loop-kept.points.items
-                is_low is_high (ap (λ v. v.position.items) w.walk-is)
-                (past_passed test low high p new c.loop-kept.points.items w.in-Some.kept i.at w.in-Some.ensures.some w.pass_over.ensures.passes));
-            few = rw is_points i.few;
+            past = past_moved n points 1 low high w.pass_over.new.self.position.items low' high' x' found c.match-ruled_out.points.items low_is high_is x_is
+                (ap (λ vs. vs.items) w.points-is) over;
+            later = rw x_is w.pass_over.ensures.passes.later;
+            low_is = low_is;
+            high_is = high_is;
+            few = rw (ap (λ vs. vs.items) w.points-is) i.few;
           }
       | in_default+then-len-lt-MOST_POINTS+in_ok-push w ↦
-          let is_low = ap (λ v. v.low.items) w.walk-is in
-          let is_high = ap (λ v. v.high.items) w.walk-is in
-          let is_points = ap (λ vs. vs.items) w.points-is ∙ w.in_ok-push.ensures.items in
-          let longer = ap length is_points ∙ length-append c.loop-kept.points.items (w.point_at.result ∷ []) in
+          let low_is = ap (λ v. v.low.items) w.walk-is in
+          let high_is = ap (λ v. v.high.items) w.walk-is in
+          let x_is = ap (λ v. v.position.items) w.walk-is in
+          let one = kept n points s 1 low high facets c.requires.facets x found i.at w.in_default.ensures.none in
+          let points_are = ap (λ vs. vs.items) w.points-is ∙ w.in_ok-push.ensures.items ∙ ap (λ (p : List ℤ). found ++ p ∷ []) (w.point_at.ensures ∙ w.position.ensures) in
+          let longer = ap length points_are ∙ length-append found (x ∷ []) in
           record {
-            corners = rw (is_low, is_high) i.corners;
-            past = past_moved test low high p c.match-ruled_out.walk.low.items c.match-ruled_out.walk.high.items c.match-ruled_out.walk.position.items c.match-ruled_out.points.items
-                is_low is_high (ap (λ v. v.position.items) w.walk-is)
-                (past_kept test low high p w.point_at.result c.loop-kept.points.items c.match-ruled_out.points.items i.at w.in_default.ensures.none (w.point_at.ensures ∙ w.position.ensures) is_points);
+            past = past_moved n points 1 low high x low' high' x' (found ++ x ∷ []) c.match-ruled_out.points.items low_is high_is x_is points_are one;
+            later = inr (sym x_is);
+            low_is = low_is;
+            high_is = high_is;
             few = omega (arith, longer);
           }
     ]
@@ -106,27 +127,41 @@ pub returns-then-not-advance-clause-points : goal.returns-then-not-advance-claus
 returns-then-not-advance-clause-points c =
     let vertices = c.args.vertices.now in
     let n = dimension_of vertices in
-    let test = is_inside c.args.facets.now 1 in
     let low = c.match-ruled_out.walk.low.items in
     let high = c.match-ruled_out.walk.high.items in
-    let position = c.match-ruled_out.walk.position.items in
+    let x = c.match-ruled_out.walk.position.items in
+    let y = c.advance.new.self.position.items in
     let known = ready (goal.at.returns-then-not-advance-clause-points c).After-advance in
-    let solid : AreSolid n vertices = record { coordinates = c.start-walk.ensures.least; dimension = c.requires.dimension; solid = c.requires.solid } in
-    let step : Advances low high position c.advance.new.self.position.items false = subst (Advances low high position c.advance.new.self.position.items) c.if-not-advance.true c.advance.ensures.step in
-    subst (AreLatticePoints n vertices) (finished test low high position c.advance.new.self.position.items c.match-ruled_out.points.items known.past step)
-    (lattice_from_dilate n vertices solid _ (inside_are_dilate_points n vertices solid 1 low high known.corners c.args.facets.now c.requires.facets))
+    let s = solid (goal.at.returns-then-not-advance-clause-points c).After-start-walk in
+    let step : Follows (IsInBox low high) x y false = subst (Follows (IsInBox low high) x y) c.if-not-advance.true c.advance.ensures.step in
+    lattice_from_dilate n vertices s c.match-ruled_out.points.items (finished n vertices s 1 low high x y c.match-ruled_out.points.items known.past step)
+
+pub loop-kept-smaller : goal.loop-kept-smaller
+loop-kept-smaller c =
+    let n = dimension_of c.args.vertices.now in
+    let low = c.match-ruled_out.walk.low.items in
+    let high = c.match-ruled_out.walk.high.items in
+    let x = c.match-ruled_out.walk.position.items in
+    let y = c.advance.new.self.position.items in
+    let known = ready (goal.at.loop-kept-smaller c).After-advance in
+    let step : IsNext (IsInBox low high) x y = subst (Follows (IsInBox low high) x y) c.if-not-advance.false c.advance.ensures.step in
+    fewer_moved n c.args.vertices.now 1 c.loop-kept.walk.low.items c.loop-kept.walk.high.items c.loop-kept.walk.position.items low high x
+    c.advance.new.self.low.items c.advance.new.self.high.items y known.past.corners known.later step known.low_is known.high_is c.advance.ensures.low
+    c.advance.ensures.high
 
 pub loop-kept-preserved : goal.loop-kept-preserved
 loop-kept-preserved c =
-    let test = is_inside c.args.facets.now 1 in
+    let n = dimension_of c.args.vertices.now in
     let low = c.match-ruled_out.walk.low.items in
     let high = c.match-ruled_out.walk.high.items in
-    let position = c.match-ruled_out.walk.position.items in
+    let x = c.match-ruled_out.walk.position.items in
+    let y = c.advance.new.self.position.items in
     let known = ready (goal.at.loop-kept-preserved c).After-advance in
-    let step : Advances low high position c.advance.new.self.position.items true = subst (Advances low high position c.advance.new.self.position.items) c.if-not-advance.false c.advance.ensures.step in
+    let s = solid (goal.at.loop-kept-preserved c).After-start-walk in
+    let found = c.match-ruled_out.points.items in
+    let step : IsNext (IsInBox low high) x y = subst (Follows (IsInBox low high) x y) c.if-not-advance.false c.advance.ensures.step in
     record {
-      corners = corners_moved (dimension_of c.args.vertices.now) c.args.vertices.now 1 low high c.advance.new.self.low.items c.advance.new.self.high.items c.advance.ensures.low c.advance.ensures.high known.corners;
-      at = moved test low high c.advance.new.self.low.items c.advance.new.self.high.items c.advance.new.self.position.items c.match-ruled_out.points.items c.advance.ensures.low c.advance.ensures.high
-          (advanced test low high position c.advance.new.self.position.items c.match-ruled_out.points.items known.past step);
+      at = at_moved n c.args.vertices.now 1 low high y c.advance.new.self.low.items c.advance.new.self.high.items found c.advance.ensures.low c.advance.ensures.high
+          (advanced n c.args.vertices.now s 1 low high x y found known.past step);
       few = known.few;
     }

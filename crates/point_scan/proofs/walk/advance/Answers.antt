@@ -1,9 +1,9 @@
 use mir.Val.{to_z, of_z}
-use Rattle.std.proofs.Common.{◌≡◌, ◌+◌, ◌-◌, ◌<◌, length, sym, arith, rules, SFits, w64}
+use Rattle.std.proofs.Common.{◌≡◌, ◌+◌, ◌-◌, ◌<◌, length, sym, ◌∙◌, arith, rules, SFits, w64}
 use Rattle.std.specs.Prelude.{pos, ◌+ℤ◌, ◌≤ℤ◌, ◌<ℤ◌}
 use Rattle.std.proofs.lemmas.Int.{ints}
 use Rattle.lattice_theory.specs.Vector.{entry}
-use Rattle.point_scan.proofs.Steps.{after_step, step_in_box, after_highest, set_step, set_front, set_back}
+use Rattle.lattice_theory.proofs.BoxSteps.{step_next, none_behind_highest, set_step, set_front, set_back}
 use Rattle.point_scan.proofs.walk.advance.Goals as goal
 
 pub returns-then-position-i : goal.returns-then-position-i
@@ -20,7 +20,7 @@ returns-then-position-i c =
     let next : c.loop-i.i ≡ i + 1 = omega arith in
     let within : i < length old = omega arith in
     let step = set_step low high old c.loop-i.position c.loop-i.i i c.loop-i.auto.position next within c.loop-i.invariant.front c.loop-i.invariant.back v v_is room in
-    (after_step low high old _ i c.requires step, step_in_box low high old _ i c.requires step)
+    step_next low high old _ i c.requires step
 
 pub loop-i-preserved : goal.loop-i-preserved
 loop-i-preserved c =
@@ -42,4 +42,6 @@ loop-i-preserved c =
     }
 
 pub returns : goal.returns
-returns c = after_highest c.args.low.now c.args.high.now c.args.position.now (sym c.requires.high_dimension) (λ k l. (c.loop-i.invariant.back k (omega arith) l).1)
+returns c = λ z inside.
+    none_behind_highest c.args.low.now c.args.high.now c.args.position.now (λ k l. (c.loop-i.invariant.back k (omega arith) l).1) z inside
+    (sym c.requires.low_dimension ∙ inside.low_dimension)

@@ -2,7 +2,7 @@ use mir.Val.{to_z, of_z}
 use Rattle.std.proofs.Common.{◌≡◌, arith, rules, SFits, w64}
 use Rattle.std.proofs.lemmas.Int.{ints}
 use Rattle.lattice_theory.specs.Vector.{entry}
-use Rattle.point_scan.proofs.Passes.{raise_kept, raise_more}
+use Rattle.lattice_theory.proofs.BoxSteps.{raise_kept, raise_more}
 use Rattle.point_scan.proofs.walk.raise.Goals as goal
 
 pub loop-i-preserved : goal.loop-i-preserved

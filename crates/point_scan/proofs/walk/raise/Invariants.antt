@@ -1,6 +1,6 @@
 use Rattle.std.proofs.Common.{◌≡◌, ◌<◌, ◌≤◌, ℕ}
 use Rattle.lattice_theory.specs.Vector.{entry}
-use Rattle.point_scan.specs.Boxes.{AgreesTo}
+use Rattle.lattice_theory.specs.Grid.{AgreesTo}
 use Rattle.point_scan.proofs.walk.raise.Given as goal
 
 abbrev pub invariant-loop-i : goal.invariant-loop-i

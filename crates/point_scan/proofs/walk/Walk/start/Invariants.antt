@@ -1,6 +1,6 @@
 use Rattle.std.proofs.Common.{◌≡◌, ◌<◌, ℕ, length}
 use Rattle.lattice_theory.specs.Vector.{entry}
-use Rattle.point_scan.specs.Boxes.{IsDilateSpan}
+use Rattle.point_scan.specs.ScanSteps.{IsDilateSpan}
 use Rattle.point_scan.proofs.walk.Walk.start.Given as goal
 
 abbrev pub invariant-loop-i : goal.invariant-loop-i
