@@ -4,12 +4,12 @@ use Rattle.std.specs.Prelude.{nat_le, slice_index, IfSome}
 use Rattle.std.specs.Io.KnownBytes.{IsAtEnd}
 use Rattle.std.proofs.lemmas.List.{append-nil, take-append-le}
 use Rattle.std.proofs.lemmas.Bool.Decides.{nat_tests}
-use Rattle.palp_io.specs.Source.{Passes}
+use Rattle.palp_io.specs.Source.{SourceState, HasEnded, Passes}
 use Rattle.palp_io.proofs.SourceLemmas.{Passes-none, Passes-told}
 use Rattle.palp_input.specs.Pieces.{line_feed}
 use Rattle.palp_input.specs.ItemSteps.{IsLineEnd}
 use Rattle.palp_input.specs.Grammar.{Listed, listed, Next, Nothing, Given, Faulty, Known, Beyond, next_within, ends_within, next_of, most_bytes, line_feeds, column_behind, text_fault}
-use Rattle.palp_input.specs.Reading.{ReaderState, IsNextItem, GivesItem, NextMeans, AnswerMeans, HasEnded}
+use Rattle.palp_input.specs.Reading.{ReaderState, IsNextItem, IsNextTaken, IsHanded, GivesItem, NextMeans, AnswerMeans}
 use Rattle.palp_input.specs.ReaderSteps.{IsReader, IsHeldItem, HeldMeans, TakeAllMeans, LastMeans}
 use Rattle.palp_input.specs.declared.fault.ItemFault.{ItemFault}
 use Rattle.palp_input.specs.declared.fault.TextFault.{TextFault}
@@ -62,7 +62,7 @@ settled first more h =
     next_settled first [] more (subst (λ (text : List ℕ). EndsBefore (length first) (next_of text)) (sym same) h) ∙ ap next_of same
 
 -- an item that ends with a line end in the beginning of a text is the first item of the text
-line_settled_item : (first more : List ℕ) (item : Listed) (end : ℕ) → 1 ≤ end → end ≤ length first → next_of first ≡ Given item end
+pub line_settled_item : (first more : List ℕ) (item : Listed) (end : ℕ) → 1 ≤ end → end ≤ length first → next_of first ≡ Given item end
     → slice_index first (end - 1) ≡ line_feed → next_of (first ++ more) ≡ Given item end
 line_settled_item first more item end some inside e line = cases (cases_eq end (length first))
   where
@@ -106,82 +106,89 @@ pub record MoreLeft (left bytes : List ℕ) (left_now : Option (List ℕ)) : Typ
   pub is : left ≡ bytes ++ more
   pub told : left_now ≡ Some more
 
-pub more_left : (left taken : List ℕ) (left_now : Option (List ℕ)) (taken_now bytes : List ℕ) → Passes (Some left) taken left_now taken_now bytes
-    → MoreLeft left bytes left_now
-more_left left taken left_now taken_now bytes passes =
-    let next = Passes-told left taken left_now taken_now bytes passes in record { more = next.0; is = next.2; told = next.1 }
+pub more_left : (source now : SourceState) (left bytes : List ℕ) → source.left ≡ Some left → Passes source now bytes → MoreLeft left bytes now.left
+more_left source now left bytes tells passes =
+    let next = Passes-told source now left bytes tells passes in record { more = next.0; is = next.2; told = next.1 }
 
 nothing_more : (more : List ℕ) (left : Option (List ℕ)) → left ≡ Some more → IsAtEnd left → more ≡ []
 nothing_more more (Some other) e h = let same : other ≡ more = cc in sym same ∙ h
 nothing_more more None e h = cc
 
 -- where the taking stopped: the source has ended, or the bytes are one more than a text may have
-abbrev pub Stopped : ℕ → List ℕ → Option (List ℕ) → Bool → Type 0
-Stopped bytes held left ended = HasEnded left ended ⊎ (bytes + length held ≡ most_bytes + 1)
+abbrev pub Stopped : ℕ → List ℕ → SourceState → Bool → Type 0
+Stopped bytes held source ended = ((ended ≡ true) × HasEnded source) ⊎ (bytes + length held ≡ most_bytes + 1)
 
 -- the rest of the text, where so many of its bytes are held
 pub rest_is : (held bytes left more : List ℕ) → left ≡ bytes ++ more → held ++ left ≡ (held ++ bytes) ++ more
 rest_is held bytes left more e = ap (λ (xs : List ℕ). held ++ xs) e ∙ sym (append_assoc held bytes more)
 
 -- an item or a fault that ends early enough in the bytes held is the first one of the rest
-next_is : (passed : ℕ) (held more : List ℕ) (left : Option (List ℕ)) (ended : Bool) (next : Next) → left ≡ Some more → next_of held ≡ next
-    → Stopped passed held left ended → (passed + length held ≡ most_bytes + 1 → EndsBefore (length held) next) → next_of (held ++ more) ≡ next
-next_is passed held more left ended next told e (inl h) early =
-    ap (λ (xs : List ℕ). next_of (held ++ xs)) (nothing_more more left told h.nothing_left) ∙ ap next_of (append-nil held) ∙ e
-next_is passed held more left ended next told e (inr all) early =
+next_is : (passed : ℕ) (held more : List ℕ) (source : SourceState) (ended : Bool) (next : Next) → source.left ≡ Some more → next_of held ≡ next
+    → Stopped passed held source ended → (passed + length held ≡ most_bytes + 1 → EndsBefore (length held) next) → next_of (held ++ more) ≡ next
+next_is passed held more source ended next told e (inl h) early =
+    ap (λ (xs : List ℕ). next_of (held ++ xs)) (nothing_more more source.left told h.1.nothing_left) ∙ ap next_of (append-nil held) ∙ e
+next_is passed held more source ended next told e (inr all) early =
     settled held more (subst (λ (n : Next). EndsBefore (length held) n) (sym e) (early all)) ∙ e
 
 earlier : (passed end size : ℕ) → passed + end ≤ most_bytes → passed + size ≡ most_bytes + 1 → end < size
 earlier passed end size le all = omega arith
 
-module _ (before : ReaderState) (bytes : List ℕ) (left_now : Option (List ℕ)) (ended : Bool)
-    (stopped : Stopped before.bytes (before.held ++ bytes) left_now ended) where
+module _ (before : ReaderState) (bytes : List ℕ) (source source_now : SourceState) (ended : Bool)
+    (stopped : Stopped before.bytes (before.held ++ bytes) source_now ended) (passes : Passes source source_now bytes) where
   -- the item
-  pub item_next : (item : Listed) (end : ℕ) → before.bytes + end ≤ most_bytes → next_of (before.held ++ bytes) ≡ Given item end
-      → (left : Option (List ℕ)) (taken taken_now : List ℕ) → Passes left taken left_now taken_now bytes → IsNextItem before left (Known (Given item end))
-  item_next item end le e None taken taken_now passes = tt
-  item_next item end le e (Some left) taken taken_now passes =
-      let m = more_left left taken left_now taken_now bytes passes in
+  item_told : (item : Listed) (end : ℕ) → before.bytes + end ≤ most_bytes → next_of (before.held ++ bytes) ≡ Given item end
+      → (l : Option (List ℕ)) → source.left ≡ l → IsNextItem before l (Known (Given item end))
+  item_told item end le e None tells = tt
+  item_told item end le e (Some left) tells =
+      let m = more_left source source_now left bytes tells passes in
       let early : before.bytes + length (before.held ++ bytes) ≡ most_bytes + 1 → EndsBefore (length (before.held ++ bytes)) (Given item end) =
       λ all. item_before (length (before.held ++ bytes)) item end (earlier before.bytes end (length (before.held ++ bytes)) le all) in
       known_item (most_bytes - before.bytes) (before.held ++ left) item end
       (ap next_of (rest_is before.held bytes left m.more m.is)
-      ∙ next_is before.bytes (before.held ++ bytes) m.more left_now ended (Given item end) m.told e stopped early)
+      ∙ next_is before.bytes (before.held ++ bytes) m.more source_now ended (Given item end) m.told e stopped early)
       (omega (arith, le))
 
-  pub fault_next : (fault : ItemFault) → before.bytes + fault.end ≤ most_bytes → next_of (before.held ++ bytes) ≡ Faulty fault
-      → (left : Option (List ℕ)) (taken taken_now : List ℕ) → Passes left taken left_now taken_now bytes → IsNextItem before left (Known (Faulty fault))
-  fault_next fault le e None taken taken_now passes = tt
-  fault_next fault le e (Some left) taken taken_now passes =
-      let m = more_left left taken left_now taken_now bytes passes in
+  pub item_next : (item : Listed) (end : ℕ) → before.bytes + end ≤ most_bytes → next_of (before.held ++ bytes) ≡ Given item end
+      → IsNextItem before source.left (Known (Given item end))
+  item_next item end le e = item_told item end le e source.left refl
+
+  fault_told : (fault : ItemFault) → before.bytes + fault.end ≤ most_bytes → next_of (before.held ++ bytes) ≡ Faulty fault
+      → (l : Option (List ℕ)) → source.left ≡ l → IsNextItem before l (Known (Faulty fault))
+  fault_told fault le e None tells = tt
+  fault_told fault le e (Some left) tells =
+      let m = more_left source source_now left bytes tells passes in
       let early : before.bytes + length (before.held ++ bytes) ≡ most_bytes + 1 → EndsBefore (length (before.held ++ bytes)) (Faulty fault) =
       λ all. fault_before (length (before.held ++ bytes)) fault (earlier before.bytes fault.end (length (before.held ++ bytes)) le all) in
       known_fault (most_bytes - before.bytes) (before.held ++ left) fault
       (ap next_of (rest_is before.held bytes left m.more m.is)
-      ∙ next_is before.bytes (before.held ++ bytes) m.more left_now ended (Faulty fault) m.told e stopped early)
+      ∙ next_is before.bytes (before.held ++ bytes) m.more source_now ended (Faulty fault) m.told e stopped early)
       (omega (arith, le))
 
+  pub fault_next : (fault : ItemFault) → before.bytes + fault.end ≤ most_bytes → next_of (before.held ++ bytes) ≡ Faulty fault
+      → IsNextItem before source.left (Known (Faulty fault))
+  fault_next fault le e = fault_told fault le e source.left refl
+
 -- what a reader holds
-pub held_most : (position bytes lines : ℕ) (items : List ℕ) (live : Bool) (now : ReaderState) → IsReader position bytes lines items
-    → record { bytes = bytes; lines = lines; held = drop position items; live = live } ≡ now
+pub held_most : (position bytes lines : ℕ) (items : List ℕ) (live ended : Bool) (now : ReaderState) → IsReader position bytes lines items
+    → record { bytes = bytes; lines = lines; held = drop position items; live = live; ended = ended } ≡ now
     → (now.bytes + length now.held ≤ most_bytes + 1) × (now.bytes ≤ most_bytes)
-held_most position bytes lines items live now h e =
+held_most position bytes lines items live ended now h e =
     subst (λ (s : ReaderState). (s.bytes + length s.held ≤ most_bytes + 1) × (s.bytes ≤ most_bytes)) e
     (omega (arith, h.most, length-drop position items), h.passed_most)
 
 -- an item of the bytes held and taken
-gives_item : (before now : ReaderState) (bytes held : List ℕ) (left left_now : Option (List ℕ)) (ended : Bool) (item : Item) (end : ℕ)
+gives_item : (before now : ReaderState) (bytes held : List ℕ) (source : SourceState) (item : Item) (end : ℕ)
     → before.held ++ bytes ≡ held → 1 ≤ end → end ≤ length held → before.bytes + end ≤ most_bytes → next_of held ≡ Given (listed item) end
-    → now ≡ record { bytes = before.bytes + end; lines = before.lines + line_feeds (take end held); held = drop end held; live = true }
-    → IsNextItem before left (Known (Given (listed item) end)) → (slice_index held (end - 1) ≢ line_feed → HasEnded left_now ended)
-    → GivesItem before now bytes left left_now ended item
-gives_item before now bytes held left left_now ended item end e some within most first parts next unless = record {
+    → now ≡ record { bytes = before.bytes + end; lines = before.lines + line_feeds (take end held); held = drop end held; live = true; ended = now.ended }
+    → IsNextItem before source.left (Known (Given (listed item) end)) → (slice_index held (end - 1) ≢ line_feed → now.ended ≡ true)
+    → GivesItem before now bytes source item
+gives_item before now bytes held source item end e some within most first parts next unless = record {
   end = end;
   some = some;
   within = subst (λ (xs : List ℕ). end ≤ length xs) (sym e) within;
   most = most;
   is_first = ap next_of e ∙ first;
-  parts = parts ∙ ap (λ (xs : List ℕ). record { bytes = before.bytes + end; lines = before.lines + line_feeds (take end xs); held = drop end xs; live = true }) (sym e);
+  parts = parts ∙ ap (λ (xs : List ℕ). record { bytes = before.bytes + end; lines = before.lines + line_feeds (take end xs); held = drop end xs; live = true; ended = now.ended }) (sym e);
   is_next = next;
   ended_unless = λ no_end. unless (λ line_end. no_end (ap (λ (xs : List ℕ). slice_index xs (end - 1)) e ∙ line_end));
 }
@@ -201,29 +208,44 @@ nothing_taken a b c h = omega arith
 at_least : (n : ℕ) → n ≤ n
 at_least n = omega arith
 
-module _ (before now : ReaderState) (left : Option (List ℕ)) (taken : List ℕ) (ended : Bool) (faults : ℕ)
+-- the parts after an item, with the reader's own flag
+own_flag : (before now : ReaderState) (end : ℕ) (held : List ℕ)
+    → now ≡ record { bytes = before.bytes + end; lines = before.lines + line_feeds (take end held); held = drop end held; live = true; ended = before.ended }
+    → now ≡ record { bytes = before.bytes + end; lines = before.lines + line_feeds (take end held); held = drop end held; live = true; ended = now.ended }
+own_flag before now end held e =
+    e ∙ ap (λ (b : Bool). record { bytes = before.bytes + end; lines = before.lines + line_feeds (take end held); held = drop end held; live = true; ended = b })
+    (sym (ap (λ (s : ReaderState). s.ended) e))
+
+module _ (before now : ReaderState) (source : SourceState) (handed : IsHanded before source)
     (most : before.bytes + length before.held ≤ most_bytes + 1) where
-  pub held_answer : (item : Item) → IsHeldItem (record before { live = false }) now item → NextMeans (Ok (Some item)) before now left taken left taken ended faults faults
+  pub held_answer : (item : Item) → IsHeldItem (record before { live = false }) now item → NextMeans (Ok (Some item)) before now source source
   held_answer item h = record {
     bytes = [];
-    passes = Passes-none left taken;
+    passes = Passes-none source;
     most = nothing_taken before.bytes (length before.held) (most_bytes + 1) most;
-    later = at_least faults;
-    answer = gives_item before now [] before.held left left ended item h.end (append-nil before.held) h.some h.inside h.within h.is_next h.passed
-        (held_next before (listed item) h.end h.some h.inside h.within h.is_next h.line_ends left)
+    later = at_least source.faults;
+    untaken = λ e. record { nothing = refl; same = refl };
+    handed = λ e. handed (sym (ap (λ (s : ReaderState). s.ended) h.passed) ∙ e);
+    keeps = λ e. ap (λ (s : ReaderState). s.ended) h.passed ∙ e;
+    answer = gives_item before now [] before.held source item h.end (append-nil before.held) h.some h.inside h.within h.is_next
+        (own_flag before now h.end before.held h.passed)
+        (held_next before (listed item) h.end h.some h.inside h.within h.is_next h.line_ends source.left)
         (λ no_end. absurd (no_end h.line_ends));
   }
 
   -- no memory for the item
-  pub held_fault : (fault : NextFault) → HeldMeans (Err fault) (record before { live = false }) now → NextMeans (Err fault) before now left taken left taken ended faults faults
+  pub held_fault : (fault : NextFault) → HeldMeans (Err fault) (record before { live = false }) now → NextMeans (Err fault) before now source source
   held_fault (Text fault) h = absurd h
   held_fault TooLong h = absurd h
   held_fault Read h = absurd h
   held_fault NoMemory h = record {
     bytes = [];
-    passes = Passes-none left taken;
+    passes = Passes-none source;
     most = nothing_taken before.bytes (length before.held) (most_bytes + 1) most;
-    later = at_least faults;
+    later = at_least source.faults;
+    untaken = λ e. record { nothing = refl; same = refl };
+    handed = λ e. handed (sym (ap (λ (s : ReaderState). s.ended) h) ∙ e);
+    keeps = λ e. ap (λ (s : ReaderState). s.ended) h ∙ e;
     answer = ap (λ (s : ReaderState). s.live) h;
   }
 
@@ -238,42 +260,52 @@ same_place lines held bytes left more fault e le =
 room_less : (passed size : ℕ) → passed ≤ most_bytes → most_bytes < passed + size → most_bytes - passed < size
 room_less passed size le h = omega arith
 
-module _ (before : ReaderState) (bytes : List ℕ) (left : Option (List ℕ)) (taken : List ℕ) (left_now : Option (List ℕ)) (taken_now : List ℕ) (ended : Bool)
-    (faults_before faults_now : ℕ) (passed_most : before.bytes ≤ most_bytes) (passes : Passes left taken left_now taken_now bytes)
-    (stopped : Stopped before.bytes (before.held ++ bytes) left_now ended) where
-  took : ReaderState
-  took = record { bytes = before.bytes; lines = before.lines; held = before.held ++ bytes; live = false }
+room_of : (passed size : ℕ) → passed + size ≤ most_bytes → size ≤ most_bytes - passed
+room_of passed size le = omega arith
 
-  has_ended : before.bytes + length (before.held ++ bytes) ≤ most_bytes → HasEnded left_now ended
+module _ (before : ReaderState) (bytes : List ℕ) (source source_now : SourceState) (ended : Bool)
+    (passed_most : before.bytes ≤ most_bytes) (passes : Passes source source_now bytes)
+    (stopped : Stopped before.bytes (before.held ++ bytes) source_now ended) where
+  took : ReaderState
+  took = record { bytes = before.bytes; lines = before.lines; held = before.held ++ bytes; live = false; ended = ended }
+
+  has_ended : before.bytes + length (before.held ++ bytes) ≤ most_bytes → (ended ≡ true) × HasEnded source_now
   has_ended le = elim stopped [ inl h ↦ h | inr all ↦ absurd (omega (arith, le, all)) ]
 
   last_ended : (end : ℕ) → before.bytes + end ≤ most_bytes → IsLineEnd (before.held ++ bytes) end
-      → slice_index (before.held ++ bytes) (end - 1) ≢ line_feed → HasEnded left_now ended
-  last_ended end le (inl all) no_end = has_ended (subst (λ (n : ℕ). before.bytes + n ≤ most_bytes) all le)
+      → slice_index (before.held ++ bytes) (end - 1) ≢ line_feed → ended ≡ true
+  last_ended end le (inl all) no_end = (has_ended (subst (λ (n : ℕ). before.bytes + n ≤ most_bytes) all le)).0
   last_ended end le (inr line) no_end = absurd (no_end line)
 
-  end_next : before.bytes + length (before.held ++ bytes) ≤ most_bytes → next_of (before.held ++ bytes) ≡ Nothing
-      → (l : Option (List ℕ)) → Passes l taken left_now taken_now bytes → IsNextItem before l (Known Nothing)
-  end_next le e None p = tt
-  end_next le e (Some xs) p =
-      let m = more_left xs taken left_now taken_now bytes p in
-      let all : before.held ++ xs ≡ before.held ++ bytes = rest_is before.held bytes xs m.more m.is
-      ∙ ap (λ (ys : List ℕ). (before.held ++ bytes) ++ ys) (nothing_more m.more left_now m.told (has_ended le).nothing_left) ∙ append-nil (before.held ++ bytes) in
-      ap (next_within (most_bytes - before.bytes)) all ∙ known_text (most_bytes - before.bytes) (before.held ++ bytes) (omega (arith, le)) ∙ ap Known e
+  end_taken : before.bytes + length (before.held ++ bytes) ≤ most_bytes → next_of (before.held ++ bytes) ≡ Nothing → IsNextTaken before bytes (Known Nothing)
+  end_taken le e = known_text (most_bytes - before.bytes) (before.held ++ bytes) (room_of before.bytes (length (before.held ++ bytes)) le) ∙ ap Known e
 
-  fault_is : (fault : TextFault) (item_fault : ItemFault) → next_of (before.held ++ bytes) ≡ Faulty item_fault
+  end_told : before.bytes + length (before.held ++ bytes) ≤ most_bytes → next_of (before.held ++ bytes) ≡ Nothing
+      → (l : Option (List ℕ)) → source.left ≡ l → IsNextItem before l (Known Nothing)
+  end_told le e None tells = tt
+  end_told le e (Some xs) tells =
+      let m = more_left source source_now xs bytes tells passes in
+      let all : before.held ++ xs ≡ before.held ++ bytes = rest_is before.held bytes xs m.more m.is
+      ∙ ap (λ (ys : List ℕ). (before.held ++ bytes) ++ ys) (nothing_more m.more source_now.left m.told (has_ended le).1.nothing_left) ∙ append-nil (before.held ++ bytes) in
+      ap (next_within (most_bytes - before.bytes)) all ∙ end_taken le e
+
+  fault_told_at : (fault : TextFault) (item_fault : ItemFault) → next_of (before.held ++ bytes) ≡ Faulty item_fault
       → fault ≡ text_fault before.lines (before.held ++ bytes) item_fault
-      → (l : Option (List ℕ)) → Passes l taken left_now taken_now bytes → IfSome l (λ xs. fault ≡ text_fault before.lines (before.held ++ xs) item_fault)
-  fault_is fault item_fault e place None p = tt
-  fault_is fault item_fault e place (Some xs) p =
-      let m = more_left xs taken left_now taken_now bytes p in
+      → (l : Option (List ℕ)) → source.left ≡ l → IfSome l (λ xs. fault ≡ text_fault before.lines (before.held ++ xs) item_fault)
+  fault_told_at fault item_fault e place None tells = tt
+  fault_told_at fault item_fault e place (Some xs) tells =
+      let m = more_left source source_now xs bytes tells passes in
       place ∙ same_place before.lines before.held bytes xs m.more item_fault m.is (fault_place (before.held ++ bytes) item_fault e)
 
-  beyond_next : most_bytes < before.bytes + length (before.held ++ bytes) → ends_within (most_bytes - before.bytes) (next_of (before.held ++ bytes)) ≡ Beyond
-      → (l : Option (List ℕ)) → Passes l taken left_now taken_now bytes → IsNextItem before l Beyond
-  beyond_next lt e None p = tt
-  beyond_next lt e (Some xs) p =
-      let m = more_left xs taken left_now taken_now bytes p in
+  beyond_taken : most_bytes < before.bytes + length (before.held ++ bytes) → ends_within (most_bytes - before.bytes) (next_of (before.held ++ bytes)) ≡ Beyond
+      → IsNextTaken before bytes Beyond
+  beyond_taken lt e = long_text (most_bytes - before.bytes) (before.held ++ bytes) (room_less before.bytes (length (before.held ++ bytes)) passed_most lt) ∙ e
+
+  beyond_told : most_bytes < before.bytes + length (before.held ++ bytes) → ends_within (most_bytes - before.bytes) (next_of (before.held ++ bytes)) ≡ Beyond
+      → (l : Option (List ℕ)) → source.left ≡ l → IsNextItem before l Beyond
+  beyond_told lt e None tells = tt
+  beyond_told lt e (Some xs) tells =
+      let m = more_left source source_now xs bytes tells passes in
       let room = most_bytes - before.bytes in
       let less = room_less before.bytes (length (before.held ++ bytes)) passed_most lt in
       ap (next_within room) (rest_is before.held bytes xs m.more m.is)
@@ -281,49 +313,85 @@ module _ (before : ReaderState) (bytes : List ℕ) (left : Option (List ℕ)) (t
       ∙ beyond_settled room (before.held ++ bytes) m.more less e
 
   last_means : (result : Result (Option Item) NextFault) (now : ReaderState) → LastMeans result took now
-      → AnswerMeans result before now bytes left left_now ended faults_before faults_now
+      → AnswerMeans result before now bytes source source_now
   unfolding took
   last_means (Ok (Some item)) now h =
-      gives_item before now bytes (before.held ++ bytes) left left_now ended item h.end refl h.some h.most h.within h.is_next h.passed
-      (item_next before bytes left_now ended stopped (listed item) h.end h.within h.is_next left taken taken_now passes)
-      (last_ended h.end h.within h.line_ends)
+      gives_item before now bytes (before.held ++ bytes) source item h.end refl h.some h.most h.within h.is_next
+      (own_flag took now h.end (before.held ++ bytes) h.passed)
+      (item_next before bytes source source_now ended stopped passes (listed item) h.end h.within h.is_next)
+      (λ no_end. ap (λ (s : ReaderState). s.ended) h.passed ∙ last_ended h.end h.within h.line_ends no_end)
   last_means (Ok None) now h = record {
-    is_next = end_next h.within h.is_next left passes;
-    has_ended = has_ended h.within;
+    of_taken = end_taken h.within h.is_next;
+    is_next = end_told h.within h.is_next source.left refl;
+    has_ended = ap (λ (s : ReaderState). s.ended) h.stays ∙ (has_ended h.within).0;
     stops = ap (λ (s : ReaderState). s.live) h.stays;
   }
   last_means (Err (Text fault)) now h = record {
     item_fault = h.item_fault;
-    is_next = fault_next before bytes left_now ended stopped h.item_fault h.within h.is_next left taken taken_now passes;
-    place = fault_is fault h.item_fault h.is_next h.place left passes;
+    of_taken = known_fault (most_bytes - before.bytes) (before.held ++ bytes) h.item_fault h.is_next (room_of before.bytes h.item_fault.end h.within);
+    place_taken = h.place;
+    is_next = fault_next before bytes source source_now ended stopped passes h.item_fault h.within h.is_next;
+    place = fault_told_at fault h.item_fault h.is_next h.place source.left refl;
     stops = ap (λ (s : ReaderState). s.live) h.stays;
   }
   last_means (Err TooLong) now h = record {
-    is_next = beyond_next h.longer h.beyond left passes;
+    of_taken = beyond_taken h.longer h.beyond;
+    is_next = beyond_told h.longer h.beyond source.left refl;
     stops = ap (λ (s : ReaderState). s.live) h.stays;
   }
   last_means (Err Read) now h = absurd h
   last_means (Err NoMemory) now h = ap (λ (s : ReaderState). s.live) h
 
-stopped_is : (before taken : ReaderState) (bytes : List ℕ) (left_now : Option (List ℕ)) (ended : Bool)
-    → taken ≡ record { bytes = before.bytes; lines = before.lines; held = before.held ++ bytes; live = false }
-    → HasEnded left_now ended ⊎ (taken.bytes + length taken.held ≡ most_bytes + 1) → Stopped before.bytes (before.held ++ bytes) left_now ended
-stopped_is before taken bytes left_now ended all h =
-    subst (λ (s : ReaderState). HasEnded left_now ended ⊎ (s.bytes + length s.held ≡ most_bytes + 1)) all h
+  -- the last step keeps the flag
+  last_flag : (result : Result (Option Item) NextFault) (now : ReaderState) → LastMeans result took now → now.ended ≡ ended
+  unfolding took
+  last_flag (Ok (Some item)) now h = ap (λ (s : ReaderState). s.ended) h.passed
+  last_flag (Ok None) now h = ap (λ (s : ReaderState). s.ended) h.stays
+  last_flag (Err (Text fault)) now h = ap (λ (s : ReaderState). s.ended) h.stays
+  last_flag (Err TooLong) now h = ap (λ (s : ReaderState). s.ended) h.stays
+  last_flag (Err Read) now h = absurd h
+  last_flag (Err NoMemory) now h = ap (λ (s : ReaderState). s.ended) h
+
+stopped_is : (before taken : ReaderState) (bytes : List ℕ) (source : SourceState)
+    → taken ≡ record { bytes = before.bytes; lines = before.lines; held = before.held ++ bytes; live = false; ended = taken.ended }
+    → IsHanded taken source → (taken.ended ≡ true) ⊎ (taken.bytes + length taken.held ≡ most_bytes + 1)
+    → Stopped before.bytes (before.held ++ bytes) source taken.ended
+stopped_is before taken bytes source all handed (inl e) = inl (e, handed e)
+stopped_is before taken bytes source all handed (inr full) =
+    inr (sym (ap (λ (s : ReaderState). s.bytes + length s.held) all) ∙ full)
 
 -- the answer after all was taken
-pub last_answer : (before begun held now : ReaderState) (result : Result (Option Item) NextFault) (left : Option (List ℕ)) (taken : List ℕ) (left_now : Option (List ℕ))
-    (taken_now : List ℕ) (ended : Bool) (faults_before faults_now : ℕ) → before.bytes ≤ most_bytes → begun ≡ record before { live = false }
-    → TakeAllMeans (Ok tt) begun held left taken left_now taken_now ended faults_before faults_now
-    → LastMeans result held now → NextMeans result before now left taken left_now taken_now ended faults_before faults_now
+pub last_answer : (before begun held now : ReaderState) (result : Result (Option Item) NextFault) (source source_now : SourceState)
+    → before.bytes ≤ most_bytes → begun ≡ record before { live = false }
+    → TakeAllMeans (Ok tt) begun held source source_now
+    → LastMeans result held now → NextMeans result before now source source_now
 unfolding took
-last_answer before begun held now result left taken left_now taken_now ended faults_before faults_now passed_most b t h =
-    let all = t.stop.0 ∙ ap (λ (s : ReaderState). record s { held = s.held ++ t.bytes }) b in
+last_answer before begun held now result source source_now passed_most b t h =
+    let all = t.stop.0 ∙ ap (λ (s : ReaderState). record s { held = s.held ++ t.bytes; ended = held.ended }) b in
+    let stopped = stopped_is before held t.bytes source_now all t.handed t.stop.1 in
+    let last = subst (λ (s : ReaderState). LastMeans result s now) all h in
     record {
       bytes = t.bytes;
       passes = t.passes;
       most = subst (λ (s : ReaderState). s.bytes + length s.held + length t.bytes ≤ most_bytes + 1) b t.most;
       later = t.later;
-      answer = last_means before t.bytes left taken left_now taken_now ended faults_before faults_now passed_most t.passes
-          (stopped_is before held t.bytes left_now ended all t.stop.1) result now (subst (λ (s : ReaderState). LastMeans result s now) all h);
+      untaken = λ e. t.untaken (ap (λ (s : ReaderState). s.ended) b ∙ e);
+      keeps = λ e. last_flag before t.bytes source source_now held.ended passed_most t.passes stopped result now last
+          ∙ t.keeps (ap (λ (s : ReaderState). s.ended) b ∙ e);
+      handed = λ e. t.handed (sym (last_flag before t.bytes source source_now held.ended passed_most t.passes stopped result now last) ∙ e);
+      answer = last_means before t.bytes source source_now held.ended passed_most t.passes stopped result now last;
     }
+
+-- nothing is taken where a take has answered `End` before
+pub already_ended : (state : ReaderState) (source : SourceState) → state.ended ≡ true → IsHanded state source
+    → state.bytes + length state.held ≤ most_bytes + 1 → TakeAllMeans (Ok tt) state state source source
+already_ended state source ended handed most = record {
+  bytes = [];
+  passes = Passes-none source;
+  most = nothing_taken state.bytes (length state.held) (most_bytes + 1) most;
+  later = at_least source.faults;
+  untaken = λ e. record { nothing = refl; same = refl };
+  handed = handed;
+  keeps = λ e. e;
+  stop = (ap (λ (xs : List ℕ). record state { held = xs }) (sym (append-nil state.held)), inl ended);
+}

@@ -1,16 +1,20 @@
 -- The reading of a text, item by item.
-use Rattle.std.proofs.Common.{◌≡◌, ℕ, zero, suc, ◌+◌, ◌-◌, ◌<◌, ◌≤◌, Bool, true, false, cond, List, ◌++◌, length, take, drop, Option, Some, None, Ok, Err, refl, sym, ap, subst, ◌∙◌, Result, arith, length-drop}
-use Rattle.std.specs.Prelude.{nat_le}
-use Rattle.std.proofs.lemmas.List.{take-append-le, drop-append-le}
-use Rattle.palp_input.specs.Grammar.{listed, Next, NextWithin, Known, Beyond, Nothing, Given, Faulty, next_of, ends_within, next_within, most_bytes, line_feeds, FaultEnd, no_more, with_item, read_next, read_behind, reading_behind}
-use Rattle.palp_input.specs.Reading.{ReaderState, GivesItem}
-use Rattle.palp_input.specs.Laws.{HasAllItems, GoesOn, Ends, EndsFaulty, EndsTooLong, reading_of, CallsRead, IsAnswer, CallsAnswer}
+use Rattle.std.proofs.Common.{◌≡◌, ◌≢◌, ◌⊎◌, inl, inr, [], ℕ, zero, suc, ◌+◌, ◌-◌, ◌<◌, ◌≤◌, Bool, true, false, cond, List, ◌++◌, length, take, drop, Option, Some, None, Ok, Err, refl, sym, ap, subst, ◌∙◌, Result, arith, length-drop}
+use Rattle.std.specs.Prelude.{nat_le, slice_index, IfSome}
+use Rattle.std.proofs.lemmas.List.{append-nil, take-append-le, drop-append-le}
+use Rattle.palp_input.specs.Grammar.{listed, Next, NextWithin, Known, Beyond, Nothing, Given, Faulty, next_of, ends_within, next_within, most_bytes, line_feeds, text_fault, FaultEnd, no_more, with_item, read_next, read_behind, reading_behind}
+use Rattle.palp_input.specs.Reading.{ReaderState, GivesItem, IsNextItem}
+use Rattle.palp_io.specs.Source.{SourceState}
+use Rattle.palp_input.specs.Pieces.{line_feed}
+use Rattle.palp_input.specs.declared.fault.ItemFault.{ItemFault}
+use Rattle.std.proofs.lemmas.Bool.{cases_eq}
+use Rattle.palp_input.specs.Laws.{HasAllItems, GoesOn, Ends, EndsFaulty, EndsTooLong, reading_of, CallsRead, CallsReadTaken, IsAnswer, CallsAnswer}
 use Rattle.palp_input.specs.declared.fault.TextFault.{TextFault}
 use Rattle.palp_input.specs.declared.fault.NextFault.{NextFault}
 use Rattle.palp_input.specs.declared.fault.NextFault.TheVariants.{Text, TooLong, Read, NoMemory}
 use Rattle.palp_input.specs.declared.item.Item.{Item}
 use Rattle.palp_input.proofs.SettledItems.{item_some}
-use Rattle.palp_input.proofs.NextAnswers.{more_left, rest_is}
+use Rattle.palp_input.proofs.NextAnswers.{more_left, rest_is, known_item, line_settled_item}
 
 -- an item that is known is the first one
 ends_known : (room : ℕ) (next known : Next) → ends_within room next ≡ Known known → next ≡ known
@@ -98,34 +102,80 @@ pub reading_too_long : EndsTooLong
 reading_too_long bytes lines rest e = reading_step bytes lines rest Beyond e
 
 -- the reading behind an item, by the bytes then held and left
-reads_item : (before now : ReaderState) (bytes left more : List ℕ) (left_now : Option (List ℕ)) (ended : Bool) (item : Item) → left ≡ bytes ++ more
-    → GivesItem before now bytes (Some left) left_now ended item → reading_of before left ≡ with_item (listed item) now.bytes (reading_of now more)
-reads_item before now bytes left more left_now ended item e gives =
-    let rest = before.held ++ left in
+reads_item : (before now : ReaderState) (bytes more : List ℕ) (source : SourceState) (item : Item)
+    → (g : GivesItem before now bytes source item)
+    → next_within (most_bytes - before.bytes) (before.held ++ (bytes ++ more)) ≡ Known (Given (listed item) g.end)
+    → reading_of before (bytes ++ more) ≡ with_item (listed item) now.bytes (reading_of now more)
+reads_item before now bytes more source item gives next =
+    let rest = before.held ++ (bytes ++ more) in
     let front : take gives.end rest ≡ take gives.end (before.held ++ bytes) =
-    ap (take gives.end) (rest_is before.held bytes left more e) ∙ take-append-le gives.end (before.held ++ bytes) more gives.within in
+    ap (take gives.end) (rest_is before.held bytes (bytes ++ more) more refl) ∙ take-append-le gives.end (before.held ++ bytes) more gives.within in
     let back : drop gives.end rest ≡ drop gives.end (before.held ++ bytes) ++ more =
-    ap (drop gives.end) (rest_is before.held bytes left more e) ∙ drop-append-le gives.end (before.held ++ bytes) more gives.within in
-    goes_on before.bytes before.lines rest (listed item) gives.end gives.is_next
+    ap (drop gives.end) (rest_is before.held bytes (bytes ++ more) more refl) ∙ drop-append-le gives.end (before.held ++ bytes) more gives.within in
+    goes_on before.bytes before.lines rest (listed item) gives.end next
     ∙ ap (λ (xs : List ℕ). with_item (listed item) (before.bytes + gives.end)
     (reading_behind (before.bytes + gives.end) (before.lines + line_feeds xs) (drop gives.end rest))) front
     ∙ ap (λ (xs : List ℕ). with_item (listed item) (before.bytes + gives.end)
     (reading_behind (before.bytes + gives.end) (before.lines + line_feeds (take gives.end (before.held ++ bytes))) xs)) back
     ∙ ap (λ (s : ReaderState). with_item (listed item) s.bytes (reading_of s more)) (sym gives.parts)
 
+-- what is told of a source that tells its bytes
+told_next : (before : ReaderState) (left : List ℕ) (l : Option (List ℕ)) (next : NextWithin) → l ≡ Some left → IsNextItem before l next
+    → next_within (most_bytes - before.bytes) (before.held ++ left) ≡ next
+told_next before left l next e h = subst (λ (o : Option (List ℕ)). IsNextItem before o next) e h
+
+told_place : (before : ReaderState) (left : List ℕ) (l : Option (List ℕ)) (fault : TextFault) (item_fault : ItemFault) → l ≡ Some left
+    → IfSome l (λ xs. fault ≡ text_fault before.lines (before.held ++ xs) item_fault) → fault ≡ text_fault before.lines (before.held ++ left) item_fault
+told_place before left l fault item_fault e h =
+    subst (λ (o : Option (List ℕ)). IfSome o (λ xs. fault ≡ text_fault before.lines (before.held ++ xs) item_fault)) e h
+
 pub calls_read : CallsRead
-calls_read (Ok (Some item)) before now left taken left_now taken_now ended f g means =
-    let m = more_left left taken left_now taken_now means.bytes means.passes in
-    record { more = m.more; told = m.told; reads = reads_item before now means.bytes left m.more left_now ended item m.is means.answer }
-calls_read (Ok None) before now left taken left_now taken_now ended f g means =
-    reading_ends before.bytes before.lines (before.held ++ left) means.answer.is_next
-calls_read (Err (Text fault)) before now left taken left_now taken_now ended f g means =
-    reading_faulty before.bytes before.lines (before.held ++ left) means.answer.item_fault means.answer.is_next
-    ∙ ap (λ (fault : TextFault). no_more (FaultEnd fault)) (sym means.answer.place)
-calls_read (Err TooLong) before now left taken left_now taken_now ended f g means =
-    reading_too_long before.bytes before.lines (before.held ++ left) means.answer.is_next
-calls_read (Err Read) before now left taken left_now taken_now ended f g means = tt
-calls_read (Err NoMemory) before now left taken left_now taken_now ended f g means = tt
+calls_read (Ok (Some item)) before now left source source_now tells means =
+    let m = more_left source source_now left means.bytes tells means.passes in
+    record {
+      more = m.more;
+      told = m.told;
+      reads = ap (reading_of before) m.is ∙ reads_item before now means.bytes m.more source item means.answer
+          (ap (λ (xs : List ℕ). next_within (most_bytes - before.bytes) (before.held ++ xs)) (sym m.is) ∙ told_next before left source.left _ tells means.answer.is_next);
+    }
+calls_read (Ok None) before now left source source_now tells means =
+    reading_ends before.bytes before.lines (before.held ++ left) (told_next before left source.left (Known Nothing) tells means.answer.is_next)
+calls_read (Err (Text fault)) before now left source source_now tells means =
+    reading_faulty before.bytes before.lines (before.held ++ left) means.answer.item_fault
+    (told_next before left source.left (Known (Faulty means.answer.item_fault)) tells means.answer.is_next)
+    ∙ ap (λ (fault : TextFault). no_more (FaultEnd fault)) (sym (told_place before left source.left fault means.answer.item_fault tells means.answer.place))
+calls_read (Err TooLong) before now left source source_now tells means =
+    reading_too_long before.bytes before.lines (before.held ++ left) (told_next before left source.left Beyond tells means.answer.is_next)
+calls_read (Err Read) before now left source source_now tells means = tt
+calls_read (Err NoMemory) before now left source source_now tells means = tt
+
+-- an item of the bytes held and taken is the first one, whatever comes behind them, unless the source has ended
+item_stays : (before now : ReaderState) (bytes more : List ℕ) (source : SourceState) (item : Item) (g : GivesItem before now bytes source item)
+    → (now.ended ≡ true → more ≡ [])
+    → next_within (most_bytes - before.bytes) (before.held ++ (bytes ++ more)) ≡ Known (Given (listed item) g.end)
+item_stays before now bytes more source item g none =
+    known_item (most_bytes - before.bytes) (before.held ++ (bytes ++ more)) (listed item) g.end
+    (ap next_of (rest_is before.held bytes (bytes ++ more) more refl) ∙ cases (cases_eq (slice_index (before.held ++ bytes) (g.end - 1)) line_feed))
+    (omega (arith, g.most))
+  where
+    cases : ((slice_index (before.held ++ bytes) (g.end - 1) ≡ line_feed) ⊎ (slice_index (before.held ++ bytes) (g.end - 1) ≢ line_feed))
+        → next_of ((before.held ++ bytes) ++ more) ≡ Given (listed item) g.end
+    cases (inl line) = line_settled_item (before.held ++ bytes) more (listed item) g.end g.some g.within g.is_first line
+    cases (inr no_end) = ap (λ (xs : List ℕ). next_of ((before.held ++ bytes) ++ xs)) (none (g.ended_unless no_end))
+        ∙ ap next_of (append-nil (before.held ++ bytes)) ∙ g.is_first
+
+pub calls_read_taken : CallsReadTaken
+calls_read_taken (Ok (Some item)) before now source source_now means = λ more none.
+    reads_item before now means.bytes more source item means.answer (item_stays before now means.bytes more source item means.answer none)
+calls_read_taken (Ok None) before now source source_now means =
+    reading_ends before.bytes before.lines (before.held ++ means.bytes) means.answer.of_taken
+calls_read_taken (Err (Text fault)) before now source source_now means =
+    reading_faulty before.bytes before.lines (before.held ++ means.bytes) means.answer.item_fault means.answer.of_taken
+    ∙ ap (λ (fault : TextFault). no_more (FaultEnd fault)) (sym means.answer.place_taken)
+calls_read_taken (Err TooLong) before now source source_now means =
+    reading_too_long before.bytes before.lines (before.held ++ means.bytes) means.answer.of_taken
+calls_read_taken (Err Read) before now source source_now means = tt
+calls_read_taken (Err NoMemory) before now source source_now means = tt
 
 -- each answer is the one to what is next
 answer_is : (result : Result (Option Item) NextFault) (before : ReaderState) (rest : List ℕ) (next now : NextWithin) → now ≡ next → IsAnswer before rest next result
@@ -133,14 +183,17 @@ answer_is : (result : Result (Option Item) NextFault) (before : ReaderState) (re
 answer_is result before rest next now e h = subst (λ (n : NextWithin). IsAnswer before rest n result) (sym e) h
 
 pub calls_answer : CallsAnswer
-calls_answer (Ok (Some item)) before now left taken left_now taken_now ended f g means read memory =
-    let gives = means.answer in answer_is (Ok (Some item)) before (before.held ++ left) (Known (Given (listed item) gives.end)) _ gives.is_next (item, refl, refl)
-calls_answer (Ok None) before now left taken left_now taken_now ended f g means read memory =
-    answer_is (Ok None) before (before.held ++ left) (Known Nothing) _ means.answer.is_next refl
-calls_answer (Err (Text fault)) before now left taken left_now taken_now ended f g means read memory =
+calls_answer (Ok (Some item)) before now left source source_now tells means read memory =
     let gives = means.answer in
-    answer_is (Err (Text fault)) before (before.held ++ left) (Known (Faulty gives.item_fault)) _ gives.is_next (ap (λ (t : TextFault). Err (Text t)) gives.place)
-calls_answer (Err TooLong) before now left taken left_now taken_now ended f g means read memory =
-    answer_is (Err TooLong) before (before.held ++ left) Beyond _ means.answer.is_next refl
-calls_answer (Err Read) before now left taken left_now taken_now ended f g means read memory = absurd (read refl)
-calls_answer (Err NoMemory) before now left taken left_now taken_now ended f g means read memory = absurd (memory refl)
+    answer_is (Ok (Some item)) before (before.held ++ left) (Known (Given (listed item) gives.end)) _ (told_next before left source.left _ tells gives.is_next) (item, refl, refl)
+calls_answer (Ok None) before now left source source_now tells means read memory =
+    answer_is (Ok None) before (before.held ++ left) (Known Nothing) _ (told_next before left source.left (Known Nothing) tells means.answer.is_next) refl
+calls_answer (Err (Text fault)) before now left source source_now tells means read memory =
+    let gives = means.answer in
+    answer_is (Err (Text fault)) before (before.held ++ left) (Known (Faulty gives.item_fault)) _
+    (told_next before left source.left (Known (Faulty gives.item_fault)) tells gives.is_next)
+    (ap (λ (t : TextFault). Err (Text t)) (told_place before left source.left fault gives.item_fault tells gives.place))
+calls_answer (Err TooLong) before now left source source_now tells means read memory =
+    answer_is (Err TooLong) before (before.held ++ left) Beyond _ (told_next before left source.left Beyond tells means.answer.is_next) refl
+calls_answer (Err Read) before now left source source_now tells means read memory = absurd (read refl)
+calls_answer (Err NoMemory) before now left source source_now tells means read memory = absurd (memory refl)

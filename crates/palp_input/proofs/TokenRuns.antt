@@ -10,7 +10,7 @@ use Rattle.palp_input.specs.declared.pieces.Piece.TheVariants.{Token, Wrong, Lin
 use Rattle.palp_input.specs.declared.pieces.Span.{Span}
 
 -- a token in front stands at a place or behind it
-FirstFrom : ℕ → List Piece → Type 0
+pub FirstFrom : ℕ → List Piece → Type 0
 FirstFrom place [] = Unit {0}
 FirstFrom place (Token token ∷ pieces) = place ≤ token.at
 FirstFrom place (Wrong at ∷ pieces) = Unit {0}
@@ -36,7 +36,7 @@ join_apart at token pieces h =
     let apart : (token.at == at + 1) ≡ false = grind (arith, nat_tests) in
     ap (λ (b : Bool). cond b (Token (record { at = at; end = token.end }) ∷ pieces) (Token (record { at = at; end = at + 1 }) ∷ Token token ∷ pieces)) apart
 
-join_other : (at : ℕ) (pieces : List Piece) → FirstFrom (at + 2) pieces → join_token at pieces ≡ Token (record { at = at; end = at + 1 }) ∷ pieces
+pub join_other : (at : ℕ) (pieces : List Piece) → FirstFrom (at + 2) pieces → join_token at pieces ≡ Token (record { at = at; end = at + 1 }) ∷ pieces
 unfolding FirstFrom
 join_other at [] h = refl
 join_other at (Token token ∷ pieces) h = join_apart at token pieces h
@@ -68,7 +68,7 @@ first_step false true token at pieces h = tt
 first_step false false true at pieces h = join_first at pieces
 first_step false false false at pieces h = tt
 
-firsts : (at : ℕ) (bytes : List ℕ) → FirstFrom at (pieces_of at bytes)
+pub firsts : (at : ℕ) (bytes : List ℕ) → FirstFrom at (pieces_of at bytes)
 unfolding FirstFrom step_by
 firsts at [] = tt
 firsts at (byte ∷ bytes) =

@@ -1,5 +1,5 @@
 -- What holds of the reading of a text, and of the items that it has. This project's own.
-use Rattle.std.specs.Prelude.{◌≡◌, ◌≢◌, ℕ, ◌+◌, ◌-◌, ◌*◌, ◌<◌, ◌≤◌, ℤ, nat_abs, Bool, List, [], ◌∷◌, ◌++◌}
+use Rattle.std.specs.Prelude.{◌≡◌, ◌≢◌, ℕ, ◌+◌, ◌-◌, ◌*◌, ◌<◌, ◌≤◌, ℤ, nat_abs, true, List, [], ◌∷◌, ◌++◌}
 use Rattle.std.specs.Prelude.{map, length, take, drop, Option, Some, None, Result, Ok, Err}
 use Rattle.std.specs.List.{All}
 use Rattle.lattice_core.specs.Weights.{Weighted, AreWellFormed}
@@ -9,6 +9,7 @@ use Rattle.palp_input.specs.Grammar.{Listed, ListedWeights, ListedPoints, listed
 use Rattle.palp_input.specs.Grammar.{NextWithin, Known, Beyond, next_within, most_bytes, line_feeds, text_fault}
 use Rattle.palp_input.specs.Grammar.{TextRead, End, FaultEnd, TooLongEnd, no_more, with_item, read_behind, reading_behind}
 use Rattle.palp_input.specs.declared.lines.LineNumber.{LineNumber}
+use Rattle.palp_io.specs.Source.{SourceState}
 use Rattle.palp_input.specs.Reading.{ReaderState, NextMeans}
 use Rattle.palp_input.specs.declared.fault.ItemFault.{ItemFault}
 use Rattle.palp_input.specs.declared.fault.NextFault.{NextFault}
@@ -62,10 +63,23 @@ AnswerReads (Err NoMemory) before now left left_now = Unit {0}
 
 -- a call over a source that tells its bytes reads on in them
 abbrev pub CallsRead : Type 0
-CallsRead = (result : Result (Option Item) NextFault) (before now : ReaderState) (left taken : List ℕ) (left_now : Option (List ℕ))
-    (taken_now : List ℕ) (ended_now : Bool) (faults_before faults_now : ℕ)
-    → NextMeans result before now (Some left) taken left_now taken_now ended_now faults_before faults_now
-    → AnswerReads result before now left left_now
+CallsRead = (result : Result (Option Item) NextFault) (before now : ReaderState) (left : List ℕ) (source source_now : SourceState)
+    → source.left ≡ Some left → NextMeans result before now source source_now → AnswerReads result before now left source_now.left
+
+-- a call reads on in the bytes that it took, whether the source tells its bytes or not: whatever comes
+-- behind them, an item is the first one of the reading, and else the reading of these bytes ends
+abbrev pub AnswerReadsTaken : Result (Option Item) NextFault → ReaderState → ReaderState → List ℕ → Type 0
+AnswerReadsTaken (Ok (Some item)) before now bytes = (more : List ℕ) → (now.ended ≡ true → more ≡ [])
+    → reading_of before (bytes ++ more) ≡ with_item (listed item) now.bytes (reading_of now more)
+AnswerReadsTaken (Ok None) before now bytes = reading_of before bytes ≡ no_more End
+AnswerReadsTaken (Err (Text fault)) before now bytes = reading_of before bytes ≡ no_more (FaultEnd fault)
+AnswerReadsTaken (Err TooLong) before now bytes = reading_of before bytes ≡ no_more TooLongEnd
+AnswerReadsTaken (Err Read) before now bytes = Unit {0}
+AnswerReadsTaken (Err NoMemory) before now bytes = Unit {0}
+
+abbrev pub CallsReadTaken : Type 0
+CallsReadTaken = (result : Result (Option Item) NextFault) (before now : ReaderState) (source source_now : SourceState)
+    (m : NextMeans result before now source source_now) → AnswerReadsTaken result before now m.bytes
 
 -- the answer to what is next in some bytes
 abbrev pub IsAnswer : ReaderState → List ℕ → NextWithin → Result (Option Item) NextFault → Type 0
@@ -77,9 +91,8 @@ IsAnswer before rest Beyond result = result ≡ Err TooLong
 -- a call over a source that tells its bytes, where it has memory and the source doesn't fail, gives
 -- each answer exactly where it is the answer to what is next in the bytes held and left
 abbrev pub CallsAnswer : Type 0
-CallsAnswer = (result : Result (Option Item) NextFault) (before now : ReaderState) (left taken : List ℕ) (left_now : Option (List ℕ))
-    (taken_now : List ℕ) (ended_now : Bool) (faults_before faults_now : ℕ)
-    → NextMeans result before now (Some left) taken left_now taken_now ended_now faults_before faults_now
+CallsAnswer = (result : Result (Option Item) NextFault) (before now : ReaderState) (left : List ℕ) (source source_now : SourceState)
+    → source.left ≡ Some left → NextMeans result before now source source_now
     → result ≢ Err Read → result ≢ Err NoMemory
     → IsAnswer before (before.held ++ left) (next_within (most_bytes - before.bytes) (before.held ++ left)) result
 

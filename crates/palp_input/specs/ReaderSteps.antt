@@ -1,7 +1,7 @@
 -- What the fields and the steps of a reader mean, which only its code and its proofs use: what a call
 -- answers is in Reading. This project's own.
-use Rattle.std.specs.Prelude.{◌≡◌, ℕ, ◌+◌, ◌-◌, ◌<◌, ◌≤◌, ◌⊎◌, Bool, true, List, ◌++◌, length, take, drop, slice_index, Option, Some, None, Result, Ok, Err}
-use Rattle.palp_io.specs.Source.{Passes}
+use Rattle.std.specs.Prelude.{◌≡◌, ℕ, ◌+◌, ◌-◌, ◌<◌, ◌≤◌, ◌⊎◌, Bool, true, false, List, ◌++◌, length, take, drop, slice_index, Option, Some, None, Result, Ok, Err}
+use Rattle.palp_io.specs.Source.{SourceState, HasEnded, Passes}
 use Rattle.palp_io.specs.Faults.{Rose}
 use Rattle.palp_input.specs.Pieces.{line_feed}
 use Rattle.palp_input.specs.ItemSteps.{IsLineEnd}
@@ -11,7 +11,7 @@ use Rattle.palp_input.specs.declared.fault.TextFault.{TextFault}
 use Rattle.palp_input.specs.declared.fault.NextFault.{NextFault}
 use Rattle.palp_input.specs.declared.fault.NextFault.TheVariants.{Text, TooLong, Read, NoMemory}
 use Rattle.palp_input.specs.declared.item.Item.{Item}
-use Rattle.palp_input.specs.Reading.{ReaderState, HasEnded}
+use Rattle.palp_input.specs.Reading.{ReaderState, IsHanded, IsUntaken}
 
 -- what stands in the fields of a reader
 pub record IsReader (position bytes lines : ℕ) (held : List ℕ) : Type 0 where
@@ -27,6 +27,7 @@ passed_by before end = record {
   lines = before.lines + line_feeds (take end before.held);
   held = drop end before.held;
   live = true;
+  ended = before.ended;
 }
 
 -- an item that is held with the line end behind it
@@ -48,40 +49,45 @@ HeldMeans (Err Read) before now = ⊥
 HeldMeans (Err NoMemory) before now = now ≡ before
 
 -- why the taking stopped: the source has ended, or one byte more than a text may have was taken
-abbrev pub StopMeans : Result (Unit {0}) NextFault → ReaderState → ReaderState → List ℕ → Option (List ℕ) → Bool → ℕ → ℕ → Type 0
-StopMeans (Ok done) before now bytes left_now ended faults_before faults_now =
-    (now ≡ record before { held = before.held ++ bytes })
-    × (HasEnded left_now ended ⊎ (now.bytes + length now.held ≡ most_bytes + 1))
-StopMeans (Err (Text fault)) before now bytes left_now ended faults_before faults_now = ⊥
-StopMeans (Err TooLong) before now bytes left_now ended faults_before faults_now = ⊥
-StopMeans (Err Read) before now bytes left_now ended faults_before faults_now = (now.live ≡ before.live) × Rose faults_before faults_now
-StopMeans (Err NoMemory) before now bytes left_now ended faults_before faults_now = now.live ≡ before.live
+abbrev pub StopMeans : Result (Unit {0}) NextFault → ReaderState → ReaderState → List ℕ → SourceState → SourceState → Type 0
+StopMeans (Ok done) before now bytes source source_now =
+    (now ≡ record before { held = before.held ++ bytes; ended = now.ended })
+    × ((now.ended ≡ true) ⊎ (now.bytes + length now.held ≡ most_bytes + 1))
+StopMeans (Err (Text fault)) before now bytes source source_now = ⊥
+StopMeans (Err TooLong) before now bytes source source_now = ⊥
+StopMeans (Err Read) before now bytes source source_now = (now.live ≡ before.live) × Rose source.faults source_now.faults
+StopMeans (Err NoMemory) before now bytes source source_now = now.live ≡ before.live
 
 -- the bytes that were taken, and why the taking stopped
-pub record TakeAllMeans (result : Result (Unit {0}) NextFault) (before now : ReaderState) (left_before : Option (List ℕ)) (taken_before : List ℕ)
-    (left_now : Option (List ℕ)) (taken_now : List ℕ) (ended_now : Bool) (faults_before faults_now : ℕ) : Type 0 where
+pub record TakeAllMeans (result : Result (Unit {0}) NextFault) (before now : ReaderState) (source source_now : SourceState) : Type 0 where
   pub bytes : List ℕ
-  pub passes : Passes left_before taken_before left_now taken_now bytes
+  pub passes : Passes source source_now bytes
   pub most : before.bytes + length before.held + length bytes ≤ most_bytes + 1
-  pub later : faults_before ≤ faults_now
-  pub stop : StopMeans result before now bytes left_now ended_now faults_before faults_now
+  pub later : source.faults ≤ source_now.faults
+  pub untaken : before.ended ≡ true → IsUntaken bytes source source_now
+  pub handed : IsHanded now source_now
+  pub keeps : before.ended ≡ true → now.ended ≡ true
+  pub stop : StopMeans result before now bytes source source_now
+
+-- why the taking stopped, by whether it ended: the source has ended, or there is no room
+abbrev pub RoomMeans : Bool → List ℕ → ℕ → SourceState → Type 0
+RoomMeans true bytes room source = HasEnded source
+RoomMeans false bytes room source = length bytes ≡ room
 
 -- bytes that are appended to others, as many as there is room for
-abbrev pub AppendMeans : Result (Unit {0}) NextFault → List ℕ → List ℕ → List ℕ → ℕ → Option (List ℕ) → Bool → ℕ → ℕ → Type 0
-AppendMeans (Ok done) before now bytes room left_now ended faults_before faults_now =
-    (now ≡ before ++ bytes) × (HasEnded left_now ended ⊎ (length bytes ≡ room))
-AppendMeans (Err (Text fault)) before now bytes room left_now ended faults_before faults_now = ⊥
-AppendMeans (Err TooLong) before now bytes room left_now ended faults_before faults_now = ⊥
-AppendMeans (Err Read) before now bytes room left_now ended faults_before faults_now = (now ≡ before ++ bytes) × Rose faults_before faults_now
-AppendMeans (Err NoMemory) before now bytes room left_now ended faults_before faults_now = (taken : List ℕ) × (now ≡ before ++ taken) × (length taken ≤ room)
+abbrev pub AppendMeans : Result Bool NextFault → List ℕ → List ℕ → List ℕ → ℕ → SourceState → SourceState → Type 0
+AppendMeans (Ok ended) before now bytes room source source_now = (now ≡ before ++ bytes) × RoomMeans ended bytes room source_now
+AppendMeans (Err (Text fault)) before now bytes room source source_now = ⊥
+AppendMeans (Err TooLong) before now bytes room source source_now = ⊥
+AppendMeans (Err Read) before now bytes room source source_now = (now ≡ before ++ bytes) × Rose source.faults source_now.faults
+AppendMeans (Err NoMemory) before now bytes room source source_now = (taken : List ℕ) × (now ≡ before ++ taken) × (length taken ≤ room)
 
-pub record TakeIntoMeans (result : Result (Unit {0}) NextFault) (before now : List ℕ) (room : ℕ) (left_before : Option (List ℕ)) (taken_before : List ℕ)
-    (left_now : Option (List ℕ)) (taken_now : List ℕ) (ended_now : Bool) (faults_before faults_now : ℕ) : Type 0 where
+pub record TakeIntoMeans (result : Result Bool NextFault) (before now : List ℕ) (room : ℕ) (source source_now : SourceState) : Type 0 where
   pub bytes : List ℕ
-  pub passes : Passes left_before taken_before left_now taken_now bytes
+  pub passes : Passes source source_now bytes
   pub most : length bytes ≤ room
-  pub later : faults_before ≤ faults_now
-  pub append : AppendMeans result before now bytes room left_now ended_now faults_before faults_now
+  pub later : source.faults ≤ source_now.faults
+  pub append : AppendMeans result before now bytes room source source_now
 
 -- an item of the bytes held
 pub record IsLastItem (before now : ReaderState) (item : Item) : Type 0 where

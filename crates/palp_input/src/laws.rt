@@ -1,5 +1,5 @@
 // What holds of the reading of a text.
-ghost use Rattle.palp_input.specs.Laws.{HasAllItems, GoesOn, Ends, EndsFaulty, EndsTooLong, CallsAnswer, CallsRead, ItemsAreItems, ItemsHaveBytes, SystemsKeepNumbers, ItemsKeepNumbers};
+ghost use Rattle.palp_input.specs.Laws.{HasAllItems, GoesOn, Ends, EndsFaulty, EndsTooLong, CallsAnswer, CallsRead, CallsReadTaken, ItemsAreItems, ItemsHaveBytes, SystemsKeepNumbers, ItemsKeepNumbers};
 
 /// What the reading of a text has after its first item is the reading of the bytes behind that
 /// item's end, with bytes and lines counted on. Where there is no further item the reading ends: at
@@ -17,6 +17,7 @@ pub fn reading_law()
 /// doesn't fail, each answer comes exactly where it is the one to what is next.
 pub fn calls_law()
     ensures reads { CallsRead }
+    ensures reads_taken { CallsReadTaken }
     ensures exactly { CallsAnswer }
 {}
 

@@ -1,8 +1,8 @@
 // A reader of items.
-ghost use Rattle.std.specs.Prelude.{◌≡◌, ◌+◌, ◌≤◌, [], true, length, take, drop};
+ghost use Rattle.std.specs.Prelude.{◌≡◌, ◌+◌, ◌≤◌, [], true, false, length, take, drop};
 ghost use Rattle.palp_input.specs.Grammar.{line_feeds, column_behind, most_bytes, text_fault};
 ghost use Rattle.palp_input.specs.ReaderSteps.{HeldMeans, LastMeans, TakeAllMeans, TakeIntoMeans};
-ghost use Rattle.palp_input.specs.Reading.{NextMeans};
+ghost use Rattle.palp_input.specs.Reading.{IsHanded, NextMeans};
 
 use crate::fault::{ItemFault, NextFault, TextFault};
 use crate::grammar::{Found, first_item};
@@ -18,7 +18,8 @@ const MOST_BYTES: usize = 67_108_864;
 const CHUNK: usize = 4_096;
 
 /// A reader of the items of a text. Contracts see how many bytes and lines it has passed, the bytes
-/// that it holds, which were taken and aren't passed yet, and whether it is live.
+/// that it holds, which were taken and aren't passed yet, whether it is live, and whether a take has
+/// answered `End`, behind which it takes nothing more.
 #[derive(Drop)]
 pub struct Reader {
     alloc: Global,
@@ -27,6 +28,7 @@ pub struct Reader {
     passed_bytes: usize,
     passed_lines: u64,
     live: bool,
+    ended: bool,
 }
 
 impl Model for Reader {
@@ -41,6 +43,7 @@ impl Model for Reader {
       lines = r.passed_lines;
       held = drop r.position r.bytes.items;
       live = r.live;
+      ended = r.ended;
     } };
 
     ghost invariant = { λ r. IsReader r.position r.passed_bytes r.passed_lines r.bytes.items };
@@ -49,7 +52,7 @@ impl Model for Reader {
 impl Reader {
     /// A live reader that has passed nothing and holds nothing. It takes no memory yet.
     pub fn new(alloc: Global) -> Reader
-        ensures { result ≡ record { bytes = 0; lines = 0; held = []; live = true } }
+        ensures { result ≡ record { bytes = 0; lines = 0; held = []; live = true; ended = false } }
     {
         Reader {
             alloc,
@@ -58,6 +61,7 @@ impl Reader {
             passed_bytes: 0,
             passed_lines: 0,
             live: true,
+            ended: false,
         }
     }
 
@@ -75,11 +79,12 @@ impl Reader {
     /// many. `Read` comes only where the source failed, and `NoMemory` where the bytes or the item
     /// find no memory. After `None`, and after an item whose last line has no line end, the source
     /// has ended. After an error or `None` the reader isn't live. It never takes more than 67,108,865
-    /// bytes in all.
+    /// bytes in all, and nothing once a take has answered `End`; a source that is handed in after
+    /// that has ended.
     pub fn next_item<S: Source>(&mut self, src: &mut S) -> Result<Option<Item>, NextFault>
-        requires { self.old.live ≡ true }
-        ensures { NextMeans result self.old self.new (S.left src.old) (S.taken src.old)
-            (S.left src.new) (S.taken src.new) (S.ended src.new) (S.faults src.old) (S.faults src.new) }
+        requires live { self.old.live ≡ true }
+        requires handed { IsHanded self.old (S.state src.old) }
+        ensures { NextMeans result self.old self.new (S.state src.old) (S.state src.new) }
     {
         self.live = false;
         match self.held_item() {
@@ -110,12 +115,16 @@ impl Reader {
 
     /// Takes until the source ends or one byte more than a text may have was taken.
     fn take_all<S: Source>(&mut self, src: &mut S) -> Result<(), NextFault>
-        ensures { TakeAllMeans result self.old self.new (S.left src.old) (S.taken src.old)
-            (S.left src.new) (S.taken src.new) (S.ended src.new) (S.faults src.old) (S.faults src.new) }
+        requires { IsHanded self.old (S.state src.old) }
+        ensures { TakeAllMeans result self.old self.new (S.state src.old) (S.state src.new) }
     {
+        if self.ended {
+            return Ok(());
+        }
         let held = self.bytes.len() - self.position;
         let room = MOST_BYTES + 1 - self.passed_bytes - held;
-        take_into(&mut self.bytes, room, src)
+        self.ended = take_into(&mut self.bytes, room, src)?;
+        Ok(())
     }
 
     /// The next item of the bytes held, behind which the source has ended or the text is too long.
@@ -146,6 +155,7 @@ impl Reader {
           lines = self.old.lines + line_feeds (take count self.old.held);
           held = drop count self.old.held;
           live = true;
+          ended = self.old.ended;
         } }
     {
         let rest = &self.bytes[self.position..];
@@ -169,9 +179,8 @@ impl Reader {
 }
 
 /// Takes until the source ends or so many bytes were taken, and appends them.
-fn take_into<S: Source>(bytes: &mut Vec<u8>, room: usize, src: &mut S) -> Result<(), NextFault>
-    ensures { TakeIntoMeans result bytes.old.items bytes.new.items room (S.left src.old) (S.taken src.old)
-        (S.left src.new) (S.taken src.new) (S.ended src.new) (S.faults src.old) (S.faults src.new) }
+fn take_into<S: Source>(bytes: &mut Vec<u8>, room: usize, src: &mut S) -> Result<bool, NextFault>
+    ensures { TakeIntoMeans result bytes.old.items bytes.new.items room (S.state src.old) (S.state src.new) }
 {
     taking_law();
     count_law();
@@ -186,11 +195,11 @@ fn take_into<S: Source>(bytes: &mut Vec<u8>, room: usize, src: &mut S) -> Result
                 }
                 left -= count;
             }
-            Took::End => return Ok(()),
+            Took::End => return Ok(true),
             Took::Failed => return Err(NextFault::Read),
         }
     }
-    Ok(())
+    Ok(false)
 }
 
 /// The first bytes, as many as told.

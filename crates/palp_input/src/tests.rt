@@ -293,56 +293,31 @@ fn tells_a_failing_source(rt: HostRuntime) -> Result<(), Fail> {
         );
         assert_eq!(rt; read_all(rt.alloc(), b"3 1 1 1\n", chunk, 11)?, (1, None));
     }
+    Ok(())
+}
+
+#[test]
+fn takes_nothing_behind_the_end(rt: HostRuntime) -> Result<(), Fail> {
+    // The take behind the one that answers the end would have this number, and fail.
+    for (chunk, call) in [(1, 23), (2, 13), (7, 5), (4_096, 3)] {
+        let read = read_all(rt.alloc(), THREE_ITEMS, chunk, call)?;
+        assert_eq!(rt; read, (3, None), "{chunk} bytes a take");
+    }
     assert_eq!(rt;
-        read_all(rt.alloc(), b"3 1 1 1\n", 4_096, 3)?,
-        (1, Some(NextFault::Read))
+        read_all(rt.alloc(), b"3 1 1 1\n2 1 1\n", 4_096, 3)?,
+        (2, None)
     );
+    assert_eq!(rt; read_all(rt.alloc(), b"", 4_096, 2)?, (0, None));
     Ok(())
 }
 
 #[test]
-fn answers_from_the_bytes_held(rt: HostRuntime) -> Result<(), Fail> {
-    let alloc = rt.alloc();
-    let bytes = Vec::from_slice(alloc, b"3 1 1 1\n2 1 1\n")?;
-    // The first call takes all bytes and the end, and each further take fails.
-    let mut source = MemSource::new(bytes, 4_096, vec![in alloc; 3, 4, 5]?);
-    let mut reader = Reader::new(alloc);
-    for (degree, count) in [(3, 3), (2, 2)] {
-        let system = WeightSystem {
-            degree,
-            weights: vec![in alloc; 1; count]?,
-        };
-        let item = Item::Weights(vec![in alloc; system]?);
-        assert!(rt; reader.is_live());
-        assert_eq!(rt; reader.next_item(&mut source), Ok(Some(item)));
+fn counts_lines_on_behind_each_item(rt: HostRuntime) -> Result<(), Fail> {
+    let text = b"3 1 1 1\n0 0\n\n1 2\n4 5\n2 1 1\n\n 7\n";
+    for chunk in [1, 4, 4_096] {
+        let read = read_all(rt.alloc(), text, chunk, 0)?;
+        assert_eq!(rt; read, (4, text_fault(NoWeights, 8, 2)));
     }
-    assert!(rt; reader.is_live());
-    assert_eq!(rt; reader.next_item(&mut source), Err(NextFault::Read));
-    assert!(rt; !reader.is_live());
-    Ok(())
-}
-
-#[test]
-fn counts_lines_on_over_a_second_source(rt: HostRuntime) -> Result<(), Fail> {
-    let alloc = rt.alloc();
-    let bytes = Vec::from_slice(alloc, b"3 1 1 1\n0 0\n\n1 2\n4 5\n")?;
-    let mut first = MemSource::new(bytes, 4, Vec::new(alloc));
-    let mut reader = Reader::new(alloc);
-    for _ in 0..3 {
-        assert!(rt; reader.is_live());
-        assert!(rt; matches!(reader.next_item(&mut first), Ok(Some(_))));
-    }
-    let bytes = Vec::from_slice(alloc, b"2 1 1\n\n 7\n")?;
-    let mut second = MemSource::new(bytes, 4, Vec::new(alloc));
-    assert!(rt; reader.is_live());
-    assert!(rt; matches!(reader.next_item(&mut second), Ok(Some(_))));
-    assert!(rt; reader.is_live());
-    let fault = TextFault {
-        kind: NoWeights,
-        line: 8,
-        column: 2,
-    };
-    assert_eq!(rt; reader.next_item(&mut second), Err(NextFault::Text(fault)));
     Ok(())
 }
 

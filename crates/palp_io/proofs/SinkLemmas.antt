@@ -1,8 +1,8 @@
 -- Bytes that a sink was given, over several calls.
-use Rattle.std.proofs.Common.{ℕ, List, [], ◌++◌, Option, Some, None, refl, sym, ap, ◌∙◌, append_assoc}
+use Rattle.std.proofs.Common.{◌≡◌, ℕ, List, [], ◌++◌, Option, Some, None, refl, sym, ap, ◌∙◌, append_assoc}
 use Rattle.std.proofs.lemmas.List.{append-nil}
 use Rattle.std.specs.Io.KnownBytes.{append_known}
-use Rattle.palp_io.specs.Sink.{IsPrefix, Gains, GainsFront}
+use Rattle.palp_io.specs.Sink.{SinkState, IsPrefix, Gains, GainsFront}
 
 -- a list begins with nothing
 pub IsPrefix-nothing : (xs : List ℕ) → IsPrefix [] xs
@@ -27,37 +27,43 @@ IsPrefix-after before front whole h = record {
 }
 
 -- no call, no bytes
-pub Gains-none : (g : Option (List ℕ)) → Gains g g []
-Gains-none None = refl
-Gains-none (Some xs) = ap Some (sym (append-nil xs))
+none_gained : (g : Option (List ℕ)) → g ≡ append_known g []
+none_gained None = refl
+none_gained (Some xs) = ap Some (sym (append-nil xs))
+
+pub Gains-none : (s : SinkState) → Gains s s []
+Gains-none s = none_gained s.given
 
 -- the bytes of two stretches of calls are appended one after another
-pub Gains-trans : (g h k : Option (List ℕ)) (a b : List ℕ) → Gains g h a → Gains h k b → Gains g k (a ++ b)
-Gains-trans None h k a b first second = second ∙ ap (λ (o : Option (List ℕ)). append_known o b) first
-Gains-trans (Some xs) h k a b first second =
-    second ∙ ap (λ (o : Option (List ℕ)). append_known o b) first ∙ ap Some (append_assoc xs a b)
+known_assoc : (g : Option (List ℕ)) (a b : List ℕ) → append_known (append_known g a) b ≡ append_known g (a ++ b)
+known_assoc None a b = refl
+known_assoc (Some xs) a b = ap Some (append_assoc xs a b)
+
+pub Gains-trans : (s m n : SinkState) (a b : List ℕ) → Gains s m a → Gains m n b → Gains s n (a ++ b)
+Gains-trans s m n a b first second =
+    second ∙ ap (λ (o : Option (List ℕ)). append_known o b) first ∙ known_assoc s.given a b
 
 -- no call is a front of anything
-pub GainsFront-none : (g : Option (List ℕ)) (whole : List ℕ) → GainsFront g g whole
-GainsFront-none g whole =
-    record { front = []; is_front = IsPrefix-nothing whole; gained = Gains-none g }
+pub GainsFront-none : (s : SinkState) (whole : List ℕ) → GainsFront s s whole
+GainsFront-none s whole =
+    record { front = []; is_front = IsPrefix-nothing whole; gained = Gains-none s }
 
 -- all of the bytes are a front of them
-pub GainsFront-whole : (g h : Option (List ℕ)) (bytes : List ℕ) → Gains g h bytes → GainsFront g h bytes
-GainsFront-whole g h bytes gained =
+pub GainsFront-whole : (s m : SinkState) (bytes : List ℕ) → Gains s m bytes → GainsFront s m bytes
+GainsFront-whole s m bytes gained =
     record { front = bytes; is_front = IsPrefix-whole bytes; gained = gained }
 
 -- after some bytes, a front of others is a front of both together
-pub GainsFront-after : (g h k : Option (List ℕ)) (a b : List ℕ) → Gains g h a → GainsFront h k b → GainsFront g k (a ++ b)
-GainsFront-after g h k a b first second = record {
+pub GainsFront-after : (s m n : SinkState) (a b : List ℕ) → Gains s m a → GainsFront m n b → GainsFront s n (a ++ b)
+GainsFront-after s m n a b first second = record {
   front = a ++ second.front;
   is_front = IsPrefix-after a second.front b second.is_front;
-  gained = Gains-trans g h k a second.front first second.gained;
+  gained = Gains-trans s m n a second.front first second.gained;
 }
 
 -- a front of some bytes is a front of these with more behind them
-pub GainsFront-longer : (g h : Option (List ℕ)) (bytes more : List ℕ) → GainsFront g h bytes → GainsFront g h (bytes ++ more)
-GainsFront-longer g h bytes more part = record {
+pub GainsFront-longer : (s m : SinkState) (bytes more : List ℕ) → GainsFront s m bytes → GainsFront s m (bytes ++ more)
+GainsFront-longer s m bytes more part = record {
   front = part.front;
   is_front = IsPrefix-longer part.front bytes more part.is_front;
   gained = part.gained;

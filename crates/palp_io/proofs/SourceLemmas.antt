@@ -1,8 +1,11 @@
 -- Bytes that pass from what a source has left to what was taken, over several calls.
-use Rattle.std.proofs.Common.{◌≡◌, ℕ, ◌≤◌, List, [], ◌++◌, length, Option, Some, None, refl, sym, ap, append_assoc, arith, ◌+◌, take, drop, length-take, length-append}
+use Rattle.std.proofs.Common.{◌≡◌, ℕ, ◌≤◌, List, [], ◌++◌, length, Option, Some, None, refl, sym, ap, ◌∙◌, append_assoc, arith, ◌+◌, take, drop, length-take, length-append}
 use Rattle.std.proofs.Math.Seq.{take-add}
 use Rattle.std.proofs.lemmas.List.{append-nil, take-append-drop, drop-drop}
-use Rattle.palp_io.specs.Source.{Passes}
+use Rattle.palp_io.specs.Source.{SourceState, Passes}
+use Rattle.std.specs.Prelude.{OnSome}
+use Rattle.std.specs.Io.KnownBytes.{prepend_known, IsAtEnd}
+use Rattle.palp_io.specs.Memory.{PassesBytes}
 use Rattle.palp_io.specs.Laws.{EndsExactly}
 use Rattle.palp_io.specs.declared.taking.Took.TheVariants.{Bytes, End, Failed}
 
@@ -11,31 +14,52 @@ Some-same : {A : Type 0} {x y : A} → ◌≡◌ {A = Option A} (Some x) (Some y
 Some-same e = cc
 
 -- no call, no bytes
-pub Passes-none : (left : Option (List ℕ)) (taken : List ℕ) → Passes left taken left taken []
-Passes-none None taken = record { front = refl; back = tt }
-Passes-none (Some xs) taken = record { front = refl; back = sym (append-nil taken) }
+none_back : (left : Option (List ℕ)) (taken : List ℕ) → OnSome left (taken ≡ taken ++ [])
+none_back None taken = tt
+none_back (Some xs) taken = sym (append-nil taken)
+
+none_front : (left : Option (List ℕ)) → left ≡ prepend_known [] left
+none_front None = refl
+none_front (Some xs) = refl
+
+pub Passes-none : (s : SourceState) → Passes s s []
+Passes-none s = record { front = none_front s.left; back = none_back s.left s.taken }
 
 -- the bytes of two stretches of calls pass one after another
-pub Passes-trans : (l : Option (List ℕ)) (t : List ℕ) (m : Option (List ℕ)) (u : List ℕ) (n : Option (List ℕ)) (v : List ℕ) (a b : List ℕ) → Passes l t m u a → Passes m u n v b → Passes l t n v (a ++ b)
-Passes-trans None t None u None v a b first second = record { front = refl; back = tt }
-Passes-trans None t None u (Some zs) v a b first second = cc
-Passes-trans None t (Some ys) u n v a b first second = cc
-Passes-trans (Some xs) t None u n v a b first second = cc
-Passes-trans (Some xs) t (Some ys) u None v a b first second = cc
-Passes-trans (Some xs) t (Some ys) u (Some zs) v a b first second =
-    let left = append_assoc a b zs in
-    let taken = append_assoc t a b in
-    record { front = cc; back = cc }
+trans_front : (l m n : Option (List ℕ)) (a b : List ℕ) → l ≡ prepend_known a m → m ≡ prepend_known b n → l ≡ prepend_known (a ++ b) n
+trans_front l m None a b first second = first ∙ ap (prepend_known a) second
+trans_front l m (Some zs) a b first second = first ∙ ap (prepend_known a) second ∙ ap Some (sym (append_assoc a b zs))
+
+trans_back : (m n : Option (List ℕ)) (t u v a b : List ℕ) → OnSome m (u ≡ t ++ a) → m ≡ prepend_known b n → OnSome n (v ≡ u ++ b) → OnSome n (v ≡ t ++ (a ++ b))
+trans_back m None t u v a b first told second = tt
+trans_back None (Some zs) t u v a b first told second = cc
+trans_back (Some ys) (Some zs) t u v a b first told second =
+    second ∙ ap (λ (xs : List ℕ). xs ++ b) first ∙ append_assoc t a b
+
+pub Passes-trans : (before between now : SourceState) (a b : List ℕ) → Passes before between a → Passes between now b → Passes before now (a ++ b)
+Passes-trans before between now a b first second = record {
+  front = trans_front before.left between.left now.left a b first.front second.front;
+  back = trans_back between.left now.left before.taken between.taken now.taken a b first.back second.front second.back;
+}
 
 -- where a source tells what is left, it goes on telling, and the bytes are the next ones
-pub Passes-told : (xs t : List ℕ) (m : Option (List ℕ)) (u b : List ℕ) → Passes (Some xs) t m u b → (ys : List ℕ) × (m ≡ Some ys) × (xs ≡ b ++ ys) × (u ≡ t ++ b)
-Passes-told xs t None u b passes = cc
-Passes-told xs t (Some ys) u b passes = (ys, refl, Some-same passes.front, passes.back)
+told : (xs t : List ℕ) (m : Option (List ℕ)) (u b : List ℕ) → Some xs ≡ prepend_known b m → OnSome m (u ≡ t ++ b)
+    → (ys : List ℕ) × (m ≡ Some ys) × (xs ≡ b ++ ys) × (u ≡ t ++ b)
+told xs t None u b front back = cc
+told xs t (Some ys) u b front back = (ys, refl, Some-same front, back)
+
+pub Passes-told : (before now : SourceState) (left b : List ℕ) → before.left ≡ Some left → Passes before now b
+    → (rest : List ℕ) × (now.left ≡ Some rest) × (left ≡ b ++ rest) × (now.taken ≡ before.taken ++ b)
+Passes-told before now left b tells passes =
+    told left before.taken now.left now.taken b (sym tells ∙ passes.front) passes.back
 
 -- where a source tells nothing, it goes on telling nothing
-pub Passes-untold : (t : List ℕ) (m : Option (List ℕ)) (u b : List ℕ) → Passes None t m u b → m ≡ None
-Passes-untold t None u b passes = refl
-Passes-untold t (Some ys) u b passes = cc
+untold : (m : Option (List ℕ)) (b : List ℕ) → None ≡ prepend_known b m → m ≡ None
+untold None b front = refl
+untold (Some ys) b front = cc
+
+pub Passes-untold : (before now : SourceState) (b : List ℕ) → before.left ≡ None → Passes before now b → now.left ≡ None
+Passes-untold before now b tells passes = untold now.left b (sym tells ∙ passes.front)
 
 -- a source that tells its bytes and gave one had something left
 not_empty : (n : ℕ) (buf xs rest : List ℕ) → 1 ≤ n → n ≤ length buf → xs ≡ take n buf ++ rest → xs ≡ [] → ⊥
@@ -43,18 +67,22 @@ not_empty n buf xs rest some fits is_next empty =
     omega (arith, length-take n buf, length-append (take n buf) rest, ap length is_next, ap length empty)
 
 -- a take that didn't fail answers the end exactly where nothing was left
+end_left : (l : Option (List ℕ)) (left : List ℕ) → l ≡ Some left → IsAtEnd l → left ≡ []
+end_left None left tells h = cc
+end_left (Some xs) left tells h = sym (Some-same tells) ∙ h
+
 pub ends_exactly : EndsExactly
-ends_exactly (Bytes n) buf left taken left_now taken_now ended_now f g passes means not_failed =
-    let next = Passes-told left taken left_now taken_now (take n buf) passes in
-    (λ e. cc, λ empty. absurd (not_empty n buf left next.0 means.some means.fits next.2 empty))
-ends_exactly End buf left taken left_now taken_now ended_now f g passes means not_failed =
-    (λ _. means.nothing_left, λ _. refl)
-ends_exactly Failed buf left taken left_now taken_now ended_now f g passes means not_failed =
+ends_exactly (Bytes n) buf before now left tells takes not_failed =
+    let next = Passes-told before now left (take n buf) tells takes.passes in
+    (λ e. cc, λ empty. absurd (not_empty n buf left next.0 takes.means.some takes.means.fits next.2 empty))
+ends_exactly End buf before now left tells takes not_failed =
+    (λ _. end_left before.left left tells takes.means.nothing_left, λ _. refl)
+ends_exactly Failed buf before now left tells takes not_failed =
     absurd (not_failed refl)
 
 -- a place in a list that moves up passes the bytes between
-pub Passes-advance : (bytes : List ℕ) (at n : ℕ) (given : List ℕ) → given ≡ take n (drop at bytes) → Passes (Some (drop at bytes)) (take at bytes) (Some (drop (at + n) bytes)) (take (at + n) bytes) given
-Passes-advance bytes at n given is_next =
+pub PassesBytes-advance : (bytes : List ℕ) (at n : ℕ) (given : List ℕ) → given ≡ take n (drop at bytes) → PassesBytes (drop at bytes) (take at bytes) (drop (at + n) bytes) (take (at + n) bytes) given
+PassesBytes-advance bytes at n given is_next =
     let whole = take-append-drop n (drop at bytes) in
     let rest = drop-drop n at bytes in
     let so_far = take-add at n bytes in

@@ -1,8 +1,8 @@
 -- What holds over several calls of a source or a sink. This project's own.
-use Rattle.std.specs.Prelude.{◌≡◌, ◌≢◌, ℕ, ◌<◌, ◌≤◌, ◌⊎◌, ◌↔◌, Bool, List, [], ◌++◌, length, Option, Some, None}
+use Rattle.std.specs.Prelude.{◌≡◌, ◌≢◌, ℕ, ◌<◌, ◌≤◌, ◌⊎◌, ◌↔◌, List, [], ◌++◌, Some, None}
 use Rattle.palp_io.specs.Faults.{last_count, Rose}
-use Rattle.palp_io.specs.Source.{Passes, TakeMeans, bytes_of}
-use Rattle.palp_io.specs.Sink.{Gains, GainsFront}
+use Rattle.palp_io.specs.Source.{SourceState, Passes, Takes}
+use Rattle.palp_io.specs.Sink.{SinkState, Gains, GainsFront}
 use Rattle.palp_io.specs.declared.taking.Took.{Took}
 use Rattle.palp_io.specs.declared.taking.Took.TheVariants.{End, Failed}
 
@@ -22,53 +22,47 @@ ZeroNeverRises = Rose 0 0 → ⊥
 
 -- no call passes no bytes
 abbrev pub PassesNothing : Type 0
-PassesNothing = (left : Option (List ℕ)) (taken : List ℕ) → Passes left taken left taken []
+PassesNothing = (source : SourceState) → Passes source source []
 
 -- the bytes of two stretches of calls pass one after another
 abbrev pub PassesOverCalls : Type 0
-PassesOverCalls = (left : Option (List ℕ)) (taken : List ℕ)
-    (left_between : Option (List ℕ)) (taken_between : List ℕ)
-    (left_now : Option (List ℕ)) (taken_now : List ℕ) (first second : List ℕ)
-    → Passes left taken left_between taken_between first
-    → Passes left_between taken_between left_now taken_now second
-    → Passes left taken left_now taken_now (first ++ second)
+PassesOverCalls = (before between now : SourceState) (first second : List ℕ)
+    → Passes before between first → Passes between now second → Passes before now (first ++ second)
 
 -- a source that tells its bytes gives the next ones of them, and goes on telling
 abbrev pub PassesTheNext : Type 0
-PassesTheNext = (left taken : List ℕ) (left_now : Option (List ℕ)) (taken_now bytes : List ℕ)
-    → Passes (Some left) taken left_now taken_now bytes
-    → (rest : List ℕ) × (left_now ≡ Some rest) × (left ≡ bytes ++ rest)
-    × (taken_now ≡ taken ++ bytes)
+PassesTheNext = (before now : SourceState) (left bytes : List ℕ) → before.left ≡ Some left
+    → Passes before now bytes
+    → (rest : List ℕ) × (now.left ≡ Some rest) × (left ≡ bytes ++ rest)
+    × (now.taken ≡ before.taken ++ bytes)
 
 -- a source that tells nothing goes on telling nothing
 abbrev pub TellsNothingOn : Type 0
-TellsNothingOn = (taken : List ℕ) (left_now : Option (List ℕ)) (taken_now bytes : List ℕ)
-    → Passes None taken left_now taken_now bytes → left_now ≡ None
+TellsNothingOn = (before now : SourceState) (bytes : List ℕ) → before.left ≡ None
+    → Passes before now bytes → now.left ≡ None
 
 -- a take that didn't fail answers the end exactly where nothing was left
 abbrev pub EndsExactly : Type 0
-EndsExactly = (answer : Took) (buf left taken : List ℕ) (left_now : Option (List ℕ))
-    (taken_now : List ℕ) (ended_now : Bool) (faults_before faults_now : ℕ)
-    → Passes (Some left) taken left_now taken_now (bytes_of answer buf)
-    → TakeMeans answer (length buf) (Some left) ended_now faults_before faults_now
+EndsExactly = (answer : Took) (buf : List ℕ) (before now : SourceState) (left : List ℕ)
+    → before.left ≡ Some left → Takes answer buf before now
     → answer ≢ Failed → ((answer ≡ End) ↔ (left ≡ []))
 
 -- no call appends nothing
 abbrev pub GainsNothing : Type 0
-GainsNothing = (given : Option (List ℕ)) → Gains given given []
+GainsNothing = (sink : SinkState) → Gains sink sink []
 
 -- the bytes of two stretches of calls are appended one after another
 abbrev pub GainsOverCalls : Type 0
-GainsOverCalls = (given between now : Option (List ℕ)) (first second : List ℕ)
-    → Gains given between first → Gains between now second → Gains given now (first ++ second)
+GainsOverCalls = (before between now : SinkState) (first second : List ℕ)
+    → Gains before between first → Gains between now second → Gains before now (first ++ second)
 
 -- a front that was appended after some bytes is a front of all
 abbrev pub GainsFrontOverCalls : Type 0
-GainsFrontOverCalls = (given between now : Option (List ℕ)) (first second : List ℕ)
-    → Gains given between first → GainsFront between now second
-    → GainsFront given now (first ++ second)
+GainsFrontOverCalls = (before between now : SinkState) (first second : List ℕ)
+    → Gains before between first → GainsFront between now second
+    → GainsFront before now (first ++ second)
 
 -- a front of some bytes is a front of these with more behind them
 abbrev pub GainsFrontOfMore : Type 0
-GainsFrontOfMore = (given now : Option (List ℕ)) (bytes more : List ℕ)
-    → GainsFront given now bytes → GainsFront given now (bytes ++ more)
+GainsFrontOfMore = (before now : SinkState) (bytes more : List ℕ)
+    → GainsFront before now bytes → GainsFront before now (bytes ++ more)

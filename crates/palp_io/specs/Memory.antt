@@ -1,7 +1,9 @@
 -- What contracts see of a source or a sink in memory, and exactly what its calls do.
 -- This project's own.
-use Rattle.std.specs.Prelude.{◌≡◌, ℕ, ◌<◌, ◌≤◌, min, Bool, List, [], ◌++◌, length, Contains, ◌-◌, ◌⊎◌}
+use Rattle.std.specs.Prelude.{◌≡◌, ℕ, ◌<◌, ◌≤◌, min, Bool, List, [], ◌++◌, length, Contains, ◌-◌, ◌⊎◌, Some}
 use Rattle.palp_io.specs.Faults.{count_up}
+use Rattle.palp_io.specs.Source.{SourceState}
+use Rattle.palp_io.specs.Sink.{SinkState}
 use Rattle.palp_io.specs.declared.taking.Took.{Took}
 use Rattle.palp_io.specs.declared.taking.Took.TheVariants.{Bytes, End, Failed}
 use Rattle.palp_io.specs.declared.giving.Gave.{Gave}
@@ -33,6 +35,16 @@ pub record SinkInMemory : Type 0 where
   pub calls : ℕ
   pub failing : List ℕ
 
+-- what every source tells, of these
+abbrev pub source_state : SourceInMemory → SourceState
+source_state s = record { left = Some s.left; taken = s.taken; ended = s.ended; faults = s.faults }
+
+abbrev pub sure_state : SureSource → SourceState
+sure_state s = record { left = Some s.left; taken = s.taken; ended = s.ended; faults = 0 }
+
+abbrev pub sink_state : SinkInMemory → SinkState
+sink_state s = record { given = Some s.given; faults = s.faults }
+
 -- one more call, which isn't one of the failing ones
 pub record TakesInTurn (before now : SourceInMemory) : Type 0 where
   pub counted : now.calls ≡ count_up before.calls
@@ -48,6 +60,11 @@ pub record FailsInTurn (before now : SourceInMemory) : Type 0 where
   pub fault_counted : now.faults ≡ count_up before.faults
   pub chunk_stays : now.chunk ≡ before.chunk
   pub failing_stay : now.failing ≡ before.failing
+
+-- the bytes went from the front of what is left to the end of what was taken
+pub record PassesBytes (left_before taken_before left_now taken_now bytes : List ℕ) : Type 0 where
+  pub front : left_before ≡ bytes ++ left_now
+  pub back : taken_now ≡ taken_before ++ bytes
 
 -- as many of the bytes that are left as may be given, and the end where none is left
 abbrev pub GivesNext : List ℕ → ℕ → Took → Type 0

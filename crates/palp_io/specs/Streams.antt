@@ -1,13 +1,21 @@
 -- What the adapters do to the bytes of a stream of std, where the stream tells them.
 -- This project's own.
-use Rattle.std.specs.Prelude.{◌≡◌, ℕ, List, Option}
+use Rattle.std.specs.Prelude.{◌≡◌, ℕ, Bool, List, [], Option, None}
 use Rattle.std.specs.Io.KnownBytes.{Appends, IsAtEnd}
 use Rattle.palp_io.specs.Faults.{count_up}
-use Rattle.palp_io.specs.Sink.{IsPrefix}
+use Rattle.palp_io.specs.Sink.{SinkState, IsPrefix}
+use Rattle.palp_io.specs.Source.{SourceState}
 use Rattle.palp_io.specs.declared.taking.Took.{Took}
 use Rattle.palp_io.specs.declared.taking.Took.TheVariants.{Bytes, End, Failed}
 use Rattle.palp_io.specs.declared.giving.Gave.{Gave}
 use Rattle.palp_io.specs.declared.giving.Gave.TheVariants.{All, Failed as GiveFailed}
+
+-- a reader of std as a source, and a writer as a sink: they tell no bytes
+abbrev pub untold_source : Bool → ℕ → SourceState
+untold_source ended faults = record { left = None; taken = []; ended = ended; faults = faults }
+
+abbrev pub untold_sink : ℕ → SinkState
+untold_sink faults = record { given = None; faults = faults }
 
 -- a source ended, so nothing is left of its stream
 abbrev pub EndsStream : Took → Option (List ℕ) → Type 0

@@ -11,21 +11,13 @@ pub enum Gave {
 
 /// A sink for bytes.
 pub trait Sink {
-    ghost use Rattle.std.specs.Prelude.{ℕ, List, Option, ◌≤◌};
-    ghost use Rattle.palp_io.specs.Faults.{last_count};
-    ghost use Rattle.palp_io.specs.Sink.{GiveMeans};
+    ghost use Rattle.palp_io.specs.Sink.{SinkState, Gives};
 
-    // The bytes given so far, where the sink tells them.
-    ghost given: { Self → Option (List ℕ) };
-
-    // How many calls failed. The count stays at its last value once it is reached.
-    ghost faults: { Self → ℕ };
+    // The bytes given so far, where the sink tells them, and how many calls failed.
+    ghost state: { Self → SinkState };
 
     /// Appends `piece`. It answers `Failed` only where the count of faults rose in this call, and
     /// then a front of the piece was appended.
     fn give(&mut self, piece: &[u8]) -> Gave
-        ensures means { GiveMeans result piece.now (given self.old) (given self.new)
-            (faults self.old) (faults self.new) }
-        ensures later { faults self.old ≤ faults self.new }
-        ensures bounded { faults self.new ≤ last_count };
+        ensures { Gives result piece.now (state self.old) (state self.new) };
 }

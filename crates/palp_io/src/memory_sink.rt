@@ -1,8 +1,7 @@
 // A sink in memory that fails where it is told to.
 ghost use Rattle.std.specs.Prelude.{◌≡◌, ◌≤◌, [], IfOk, Some};
-ghost use Rattle.palp_io.specs.Faults.{last_count};
-ghost use Rattle.palp_io.specs.Sink.{GiveMeans};
-ghost use Rattle.palp_io.specs.Memory.{GivesToMemory};
+ghost use Rattle.palp_io.specs.Sink.{Gives};
+ghost use Rattle.palp_io.specs.Memory.{GivesToMemory, sink_state};
 
 use crate::giving::{Gave, Sink};
 use crate::listing::is_listed;
@@ -71,15 +70,10 @@ impl MemSink {
 }
 
 impl Sink for MemSink {
-    ghost given = { λ s. Some s.given };
-
-    ghost faults = { λ s. s.faults };
+    ghost state = { sink_state };
 
     fn give(&mut self, piece: &[u8]) -> Gave
-        ensures means { GiveMeans result piece.now (Some self.old.given) (Some self.new.given)
-            self.old.faults self.new.faults }
-        ensures later { self.old.faults ≤ self.new.faults }
-        ensures bounded { self.new.faults ≤ last_count }
+        ensures gives { Gives result piece.now (sink_state self.old) (sink_state self.new) }
         ensures exact { GivesToMemory self.old self.new piece.now result }
     {
         self.call_count = self.call_count.saturating_add(1);

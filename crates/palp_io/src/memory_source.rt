@@ -1,8 +1,7 @@
 // A source in memory that fails where it is told to.
 ghost use Rattle.std.specs.Prelude.{◌≡◌, ◌<◌, ◌≤◌, [], false, length, Some};
-ghost use Rattle.palp_io.specs.Faults.{last_count};
-ghost use Rattle.palp_io.specs.Source.{Passes, TakeMeans, bytes_of};
-ghost use Rattle.palp_io.specs.Memory.{TakesFromMemory};
+ghost use Rattle.palp_io.specs.Source.{Takes};
+ghost use Rattle.palp_io.specs.Memory.{TakesFromMemory, source_state};
 
 use crate::listing::is_listed;
 use crate::next_bytes::take_next;
@@ -72,22 +71,11 @@ impl MemSource {
 }
 
 impl Source for MemSource {
-    ghost left = { λ s. Some s.left };
-
-    ghost taken = { λ s. s.taken };
-
-    ghost ended = { λ s. s.ended };
-
-    ghost faults = { λ s. s.faults };
+    ghost state = { source_state };
 
     fn take(&mut self, buf: &mut [u8]) -> Took
         requires { 0 < length buf.old }
-        ensures passes { Passes (Some self.old.left) self.old.taken (Some self.new.left)
-            self.new.taken (bytes_of result buf.new) }
-        ensures means { TakeMeans result (length buf.new) (Some self.old.left) self.new.ended
-            self.old.faults self.new.faults }
-        ensures later { self.old.faults ≤ self.new.faults }
-        ensures bounded { self.new.faults ≤ last_count }
+        ensures takes { Takes result buf.new (source_state self.old) (source_state self.new) }
         ensures exact { TakesFromMemory self.old self.new (length buf.new) result }
     {
         self.call_count = self.call_count.saturating_add(1);

@@ -1,7 +1,7 @@
 // The next bytes of a list, as the answer of a take.
-ghost use Rattle.std.specs.Prelude.{◌≤◌, ◌<◌, min, take, drop, length, Some};
-ghost use Rattle.palp_io.specs.Source.{Passes, bytes_of};
-ghost use Rattle.palp_io.specs.Memory.{GivesNext};
+ghost use Rattle.std.specs.Prelude.{◌≤◌, ◌<◌, min, take, drop, length};
+ghost use Rattle.palp_io.specs.Source.{bytes_of};
+ghost use Rattle.palp_io.specs.Memory.{GivesNext, PassesBytes};
 
 use crate::taking::Took;
 
@@ -11,9 +11,8 @@ pub fn take_next(bytes: &[u8], position: &mut usize, limit: usize, buf: &mut [u8
     requires within { position.old ≤ length bytes.now }
     requires some { 1 ≤ limit }
     requires room { 0 < length buf.old }
-    ensures passes { Passes (Some (drop position.old bytes.now)) (take position.old bytes.now)
-        (Some (drop position.new bytes.now)) (take position.new bytes.now)
-        (bytes_of result buf.new) }
+    ensures passes { PassesBytes (drop position.old bytes.now) (take position.old bytes.now)
+        (drop position.new bytes.now) (take position.new bytes.now) (bytes_of result buf.new) }
     ensures next { GivesNext (drop position.old bytes.now) (min limit (length buf.old)) result }
     ensures stays { position.new ≤ length bytes.now }
 {

@@ -1,10 +1,9 @@
 // The program's streams as a source and as sinks.
 ghost use Rattle.std.specs.Prelude.{◌≡◌, ◌<◌, ◌≤◌, None, [], false, length, IfOk};
 ghost use Rattle.std.specs.Io.KnownBytes.{Consumes};
-ghost use Rattle.palp_io.specs.Faults.{last_count};
-ghost use Rattle.palp_io.specs.Source.{Passes, TakeMeans, bytes_of};
-ghost use Rattle.palp_io.specs.Sink.{GiveMeans};
-ghost use Rattle.palp_io.specs.Streams.{CountsGive, CountsTake, EndsStream, WritesPiece};
+ghost use Rattle.palp_io.specs.Source.{Takes, bytes_of};
+ghost use Rattle.palp_io.specs.Sink.{Gives};
+ghost use Rattle.palp_io.specs.Streams.{CountsGive, CountsTake, EndsStream, WritesPiece, untold_sink, untold_source};
 
 use crate::giving::{Gave, Sink};
 use crate::taking::{Source, Took};
@@ -23,8 +22,7 @@ impl<R: Read + Drop> StdSource<R> {
     /// A source that reads from `inner`.
     pub fn new(inner: R) -> StdSource<R>
         ensures keeps { result.inner ≡ inner }
-        ensures no_faults { ⟦<StdSource<R> as Source>⟧.faults result ≡ 0 }
-        ensures goes_on { ⟦<StdSource<R> as Source>⟧.ended result ≡ false }
+        ensures begins { ⟦<StdSource<R> as Source>⟧.state result ≡ untold_source false 0 }
     {
         StdSource {
             inner,
@@ -35,23 +33,14 @@ impl<R: Read + Drop> StdSource<R> {
 }
 
 impl<R: Read + Drop> Source for StdSource<R> {
-    ghost left = { λ _. None };
-
-    ghost taken = { λ _. [] };
-
-    ghost ended = { λ s. s.at_end };
-
-    ghost faults = { λ s. s.fault_count };
+    ghost state = { λ s. untold_source s.at_end s.fault_count };
 
     /// One read of the reader, in which 0 bytes are `End`. Where the reader tells its bytes, the
     /// ones that the take gives are the next of these.
     fn take(&mut self, buf: &mut [u8]) -> Took
         requires { 0 < length buf.old }
-        ensures passes { Passes None [] None [] (bytes_of result buf.new) }
-        ensures means { TakeMeans result (length buf.new) None self.new.at_end
-            self.old.fault_count self.new.fault_count }
-        ensures later { self.old.fault_count ≤ self.new.fault_count }
-        ensures bounded { self.new.fault_count ≤ last_count }
+        ensures takes { Takes result buf.new (untold_source self.old.at_end self.old.fault_count)
+            (untold_source self.new.at_end self.new.fault_count) }
         ensures counts { CountsTake result self.old.fault_count self.new.fault_count }
         ensures reads { Consumes (R.remaining self.old.inner) (R.remaining self.new.inner)
             (bytes_of result buf.new) }
@@ -85,7 +74,7 @@ impl<W: Write + Drop> StdSink<W> {
     /// A sink that writes to `inner`.
     pub fn new(inner: W) -> StdSink<W>
         ensures keeps { result.inner ≡ inner }
-        ensures no_faults { ⟦<StdSink<W> as Sink>⟧.faults result ≡ 0 }
+        ensures begins { ⟦<StdSink<W> as Sink>⟧.state result ≡ untold_sink 0 }
     {
         StdSink {
             inner,
@@ -95,17 +84,12 @@ impl<W: Write + Drop> StdSink<W> {
 }
 
 impl<W: Write + Drop> Sink for StdSink<W> {
-    ghost given = { λ _. None };
-
-    ghost faults = { λ s. s.fault_count };
+    ghost state = { λ s. untold_sink s.fault_count };
 
     /// Writes the piece, whole, and flushes. Where the writer tells its bytes, these gain the
     /// piece, or a front of it where the give failed.
     fn give(&mut self, piece: &[u8]) -> Gave
-        ensures means { GiveMeans result piece.now None None self.old.fault_count
-            self.new.fault_count }
-        ensures later { self.old.fault_count ≤ self.new.fault_count }
-        ensures bounded { self.new.fault_count ≤ last_count }
+        ensures gives { Gives result piece.now (untold_sink self.old.fault_count) (untold_sink self.new.fault_count) }
         ensures counts { CountsGive result self.old.fault_count self.new.fault_count }
         ensures writes { WritesPiece result piece.now (W.contents self.old.inner)
             (W.contents self.new.inner) }
@@ -188,6 +172,45 @@ mod tests {
         }
     }
 
+    // Takes a byte in each call, and keeps it.
+    #[derive(Drop)]
+    struct Narrow {
+        bytes: Vec<u8>,
+    }
+
+    impl Write for Narrow {
+        fn write(&mut self, buf: &[u8]) -> io::Result<usize> {
+            let Some(first) = buf.first() else {
+                return Ok(0);
+            };
+            match self.bytes.push(*first) {
+                Ok(()) => Ok(1),
+                Err(_) => Err(ErrorKind::OutOfMemory.into()),
+            }
+        }
+
+        fn flush(&mut self) -> io::Result<()> {
+            Ok(())
+        }
+    }
+
+    // Takes all that it is given, and fails to pass it on.
+    #[derive(Drop)]
+    struct Stuck {
+        taken: usize,
+    }
+
+    impl Write for Stuck {
+        fn write(&mut self, buf: &[u8]) -> io::Result<usize> {
+            self.taken = buf.len();
+            Ok(buf.len())
+        }
+
+        fn flush(&mut self) -> io::Result<()> {
+            Err(ErrorKind::Other.into())
+        }
+    }
+
     #[test]
     fn source_counts_an_err_and_ends(rt: HostRuntime) {
         let mut source = StdSource::new(Slow { step: 0, seen: 0 });
@@ -217,5 +240,30 @@ mod tests {
         assert_eq!(rt; whole.give(b"d"), Gave::All);
         assert_eq!(rt; whole.inner.as_slice(), b"bcd".as_slice());
         Ok(())
+    }
+
+    #[test]
+    fn long_pieces_are_written_whole(rt: HostRuntime) -> Result<(), Fail> {
+        let piece = [b'p'; 10_000];
+        let mut whole = StdSink::new(Vec::new(rt.alloc()));
+        assert_eq!(rt; whole.give(&piece), Gave::All);
+        assert_eq!(rt; whole.inner.as_slice(), piece.as_slice());
+        let mut narrow = StdSink::new(Narrow {
+            bytes: Vec::new(rt.alloc()),
+        });
+        assert_eq!(rt; narrow.give(&piece), Gave::All);
+        assert_eq!(rt; narrow.inner.bytes.as_slice(), piece.as_slice());
+        assert_eq!(rt; narrow.fault_count, 0);
+        Ok(())
+    }
+
+    #[test]
+    fn failed_flush_is_a_fault(rt: HostRuntime) {
+        let mut stuck = StdSink::new(Stuck { taken: 0 });
+        assert_eq!(rt; stuck.give(b"bcd"), Gave::Failed);
+        assert_eq!(rt; stuck.inner.taken, 3);
+        assert_eq!(rt; stuck.fault_count, 1);
+        assert_eq!(rt; stuck.give(b""), Gave::Failed);
+        assert_eq!(rt; stuck.fault_count, 2);
     }
 }

@@ -1,7 +1,7 @@
 // A source in memory that never fails.
 ghost use Rattle.std.specs.Prelude.{◌≡◌, ◌<◌, [], false, length, Some};
-ghost use Rattle.palp_io.specs.Source.{Passes, TakeMeans, bytes_of};
-ghost use Rattle.palp_io.specs.Memory.{GivesNext};
+ghost use Rattle.palp_io.specs.Source.{Takes};
+ghost use Rattle.palp_io.specs.Memory.{GivesNext, sure_state};
 
 use crate::next_bytes::take_next;
 use crate::taking::{Source, Took};
@@ -45,19 +45,11 @@ impl NeverFails {
 }
 
 impl Source for NeverFails {
-    ghost left = { λ s. Some s.left };
-
-    ghost taken = { λ s. s.taken };
-
-    ghost ended = { λ s. s.ended };
-
-    ghost faults = { λ _. 0 };
+    ghost state = { sure_state };
 
     fn take(&mut self, buf: &mut [u8]) -> Took
         requires { 0 < length buf.old }
-        ensures passes { Passes (Some self.old.left) self.old.taken (Some self.new.left)
-            self.new.taken (bytes_of result buf.new) }
-        ensures means { TakeMeans result (length buf.new) (Some self.old.left) self.new.ended 0 0 }
+        ensures takes { Takes result buf.new (sure_state self.old) (sure_state self.new) }
         ensures exact { GivesNext self.old.left (length buf.new) result }
     {
         let room = buf.len();
