@@ -37,12 +37,14 @@ module _ (fault_behind : List (List ℕ) → List ℕ → Option WordKind) (word
   -- the word is the first wrong one
   pub fault_found : (kind : WordKind) → IsNext words i word → fault_behind (take i words) word ≡ Some kind
       → first_fault fault_behind (take i words) (drop i words) ≡ Some (record { index = i + 2; kind = kind })
-  fault_found kind h e = fault_step h ∙ ap (λ (k : Option WordKind). fault_or k (i + 2) (first_fault fault_behind (take (i + 1) words) (drop (i + 1) words))) e
+  fault_found kind h e = fault_step h
+      ∙ ap (λ (k : Option WordKind). fault_or k (i + 2) (first_fault fault_behind (take (i + 1) words) (drop (i + 1) words))) e
 
   -- the word is right
   pub fault_passed : IsNext words i word → fault_behind (take i words) word ≡ None
       → first_fault fault_behind (take i words) (drop i words) ≡ first_fault fault_behind (take (i + 1) words) (drop (i + 1) words)
-  fault_passed h e = fault_step h ∙ ap (λ (k : Option WordKind). fault_or k (i + 2) (first_fault fault_behind (take (i + 1) words) (drop (i + 1) words))) e
+  fault_passed h e = fault_step h
+      ∙ ap (λ (k : Option WordKind). fault_or k (i + 2) (first_fault fault_behind (take (i + 1) words) (drop (i + 1) words))) e
 
 -- a test of one word more
 pub any_push : (test : List ℕ → Bool) (words : List (List ℕ)) (word : List ℕ)
@@ -50,7 +52,8 @@ pub any_push : (test : List ℕ → Bool) (words : List (List ℕ)) (word : List
 any_push test [] word = elim (test word) as (λ b. (b || false) ≡ b) [ true ↦ refl | false ↦ refl ]
 any_push test (first ∷ words) word =
     ap (λ (b : Bool). test first || b) (any_push test words word)
-    ∙ elim (test first) as (λ b. (b || (list_any test words || test word)) ≡ ((b || list_any test words) || test word)) [ true ↦ refl | false ↦ refl ]
+    ∙ elim (test first) as (λ b. (b || (list_any test words || test word)) ≡ ((b || list_any test words) || test word))
+    [ true ↦ refl | false ↦ refl ]
 
 -- whether a word passes a test, with one word more
 pub any_next : (test : List ℕ → Bool) (words : List (List ℕ)) (i : ℕ) (word : List ℕ) (before here : Bool) → IsNext words i word

@@ -57,7 +57,8 @@ first_left_case first words word rest false e ih h =
     let s = sym (stops first words e) ∙ h in
     let same : first ≡ word = cc in ap is_option (sym same) ∙ e
 
-pub first_left : (words : List (List ℕ)) (word : List ℕ) (rest : List (List ℕ)) → without_options words ≡ word ∷ rest → is_option word ≡ false
+pub first_left : (words : List (List ℕ)) (word : List ℕ) (rest : List (List ℕ)) → without_options words ≡ word ∷ rest
+    → is_option word ≡ false
 first_left [] word rest h = cc
 first_left (first ∷ words) word rest h =
     first_left_case first words word rest (is_option first) refl (first_left words word rest) h
@@ -129,23 +130,28 @@ late_fault (a ∷ []) word h = absurd (omega arith)
 late_fault (a ∷ b ∷ []) word h = absurd (omega arith)
 late_fault (a ∷ b ∷ c ∷ left) word h = refl
 
-late_step : (before : List (List ℕ)) (word : List ℕ) (words : List (List ℕ)) (b : Bool) → is_option word ≡ b → 3 ≤ length (without_options before)
-    → first_fault cws_fault before (word ∷ words) ≡ fault_or (cond b None (Some Extra)) (length before + 2) (first_fault cws_fault (before ++ word ∷ []) words)
+late_step : (before : List (List ℕ)) (word : List ℕ) (words : List (List ℕ)) (b : Bool) → is_option word ≡ b
+    → 3 ≤ length (without_options before)
+    → first_fault cws_fault before (word ∷ words) ≡ fault_or (cond b None (Some Extra)) (length before + 2)
+    (first_fault cws_fault (before ++ word ∷ []) words)
 late_step before word words b e h =
     ap (λ (k : Option WordKind). fault_or k (length before + 2) (first_fault cws_fault (before ++ word ∷ []) words))
     (late_fault (without_options before) word h ∙ ap (λ (x : Bool). cond x None (Some Extra)) e)
 
-keeps_three : (before : List (List ℕ)) (word : List ℕ) → 3 ≤ length (without_options before) → 3 ≤ length (without_options (before ++ word ∷ []))
+keeps_three : (before : List (List ℕ)) (word : List ℕ) → 3 ≤ length (without_options before)
+    → 3 ≤ length (without_options (before ++ word ∷ []))
 keeps_three before word h = omega (arith, without_grows before (word ∷ []))
 
 -- only `-r` behind the numbers
-right_case : (before : List (List ℕ)) (word : List ℕ) (words : List (List ℕ)) (b : Bool) → is_option word ≡ b → 3 ≤ length (without_options before)
+right_case : (before : List (List ℕ)) (word : List ℕ) (words : List (List ℕ)) (b : Bool) → is_option word ≡ b
+    → 3 ≤ length (without_options before)
     → without_options (word ∷ words) ≡ [] → (without_options words ≡ [] → first_fault cws_fault (before ++ word ∷ []) words ≡ None)
     → first_fault cws_fault before (word ∷ words) ≡ None
 right_case before word words true e h none rest = late_step before word words true e h ∙ rest (sym (skips word words e) ∙ none)
 right_case before word words false e h none rest = let s = sym (stops word words e) ∙ none in cc
 
-pub tail_right : (before words : List (List ℕ)) → 3 ≤ length (without_options before) → without_options words ≡ [] → first_fault cws_fault before words ≡ None
+pub tail_right : (before words : List (List ℕ)) → 3 ≤ length (without_options before) → without_options words ≡ []
+    → first_fault cws_fault before words ≡ None
 tail_right before [] h none = refl
 tail_right before (word ∷ words) h none =
     right_case before word words (is_option word) refl h none (tail_right (before ++ word ∷ []) words (keeps_three before word h))

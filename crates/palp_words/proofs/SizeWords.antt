@@ -165,7 +165,8 @@ module _ (words : List (List ℕ)) (start : ℕ) (s : StartsAt words start) wher
       (ap first_size_fault (sym s.rest) ∙ e)
       ∙ ap (λ (i : ℕ). Err (record { index = i; kind = fault.kind })) (let i = start_is in omega arith)
 
-  module _ (dim low limit : ℕ) (size_right : first_size_fault (drop start words) ≡ None) (dim_is : dim ≡ first_size (drop start words)) where
+  module _ (dim low limit : ℕ) (size_right : first_size_fault (drop start words) ≡ None)
+      (dim_is : dim ≡ first_size (drop start words)) where
     size_at_start : first_size_fault (without_options words) ≡ None
     size_at_start = ap first_size_fault (sym s.rest) ∙ size_right
 
@@ -177,18 +178,21 @@ module _ (words : List (List ℕ)) (start : ℕ) (s : StartsAt words start) wher
         size_at_start (ap (λ (ws : List (List ℕ)). first_number_fault 1 largest ws) (sym (behind 1)) ∙ e)
         ∙ ap (λ (i : ℕ). Err (record { index = i; kind = fault.kind })) (let i = start_is in omega arith)
 
-    module _ (low_right : first_number_fault 1 largest (drop (start + 1) words) ≡ None) (low_is : low ≡ first_number (drop (start + 1) words))
+    module _ (low_right : first_number_fault 1 largest (drop (start + 1) words) ≡ None)
+        (low_is : low ≡ first_number (drop (start + 1) words))
         (limit_is : limit ≡ highest dim) where
       low_behind : first_number_fault 1 largest (drop 1 (without_options words)) ≡ None
       low_behind = ap (λ (ws : List (List ℕ)). first_number_fault 1 largest ws) (sym (behind 1)) ∙ low_right
 
       range_is : first_number_fault low limit (drop (start + 2) words)
-          ≡ first_number_fault (first_number (drop 1 (without_options words))) (highest (first_size (without_options words))) (drop 2 (without_options words))
+          ≡ first_number_fault (first_number (drop 1 (without_options words))) (highest (first_size (without_options words)))
+          (drop 2 (without_options words))
       range_is =
           ap (λ (n : ℕ). first_number_fault n limit (drop (start + 2) words)) (low_is ∙ ap first_number (behind 1))
           ∙ ap (λ (n : ℕ). first_number_fault (first_number (drop 1 (without_options words))) n (drop (start + 2) words))
           (limit_is ∙ ap highest (dim_is ∙ ap first_size s.rest))
-          ∙ ap (λ (ws : List (List ℕ)). first_number_fault (first_number (drop 1 (without_options words))) (highest (first_size (without_options words))) ws) (behind 2)
+          ∙ ap (λ (ws : List (List ℕ)). first_number_fault (first_number (drop 1 (without_options words)))
+          (highest (first_size (without_options words))) ws) (behind 2)
 
       -- the largest degree is wrong
       pub cws_high_wrong : (fault : WordFault) → first_number_fault low limit (drop (start + 2) words) ≡ Some fault.kind
@@ -219,9 +223,19 @@ module _ (words : List (List ℕ)) (start : ℕ) (s : StartsAt words start) wher
         cws_right place high e le high_is =
             answer_is ∙ all_right head.front head.only reflexive (without_options words) (length words + 2) is_start right
             (sym (e ∙ ap without_options (behind 3)) ∙ drop_all place words le)
-            ∙ ap (λ (n : ℕ). Ok (Cws (record { dim = n; low = first_number (drop 1 (without_options words)); high = first_number (drop 2 (without_options words)); reflexive_only = reflexive })))
+            ∙ ap (λ (n : ℕ). Ok (Cws (record {
+              dim = n;
+              low = first_number (drop 1 (without_options words));
+              high = first_number (drop 2 (without_options words));
+              reflexive_only = reflexive;
+            })))
             (sym (dim_is ∙ ap first_size s.rest))
-            ∙ ap (λ (n : ℕ). Ok (Cws (record { dim = dim; low = n; high = first_number (drop 2 (without_options words)); reflexive_only = reflexive })))
+            ∙ ap (λ (n : ℕ). Ok (Cws (record {
+              dim = dim;
+              low = n;
+              high = first_number (drop 2 (without_options words));
+              reflexive_only = reflexive;
+            })))
             (sym (low_is ∙ ap first_number (behind 1)))
             ∙ ap (λ (n : ℕ). Ok (Cws (record { dim = dim; low = low; high = n; reflexive_only = reflexive })))
             (sym (high_is ∙ ap first_number (behind 2)))

@@ -53,7 +53,11 @@ one_too_many (n ∷ l ∷ h ∷ x ∷ words) r k = rw r.dim (rw r.low (rw r.high
 
 -- three right numbers
 pub all_right : (words : List (List ℕ)) → AreRight words → length words ≤ 3
-    → sweep_answer words ≡ Ok (Sweep (record { dim = first_number words; low = first_number (drop 1 words); high = first_number (drop 2 words) }))
+    → sweep_answer words ≡ Ok (Sweep (record {
+      dim = first_number words;
+      low = first_number (drop 1 words);
+      high = first_number (drop 2 words);
+    }))
 all_right [] r h = let d = r.dim in cc
 all_right (n ∷ []) r h = let d = r.low in cc
 all_right (n ∷ l ∷ []) r h = let d = r.high in cc

@@ -22,7 +22,8 @@ returns-in_err-low c =
     let words = map (string_bytes {Z = Global}) c.args.further.now in
     let s = starts c.args.further.now c.options_end-start.result c.options_end-start.ensures.rest c.options_end-start.ensures.within in
     let fault = c.in_err-low.field-0.0 in
-    let e : cws_answer words ≡ Err fault = cws_low_wrong words _ s c.in_ok-dim.dim 0 0 c.in_ok-dim.ensures.0 c.in_ok-dim.ensures.1 fault c.in_err-low.ensures.0 c.in_err-low.ensures.1 in
+    let e : cws_answer words ≡ Err fault = cws_low_wrong words _ s c.in_ok-dim.dim 0 0 c.in_ok-dim.ensures.0 c.in_ok-dim.ensures.1 fault
+    c.in_err-low.ensures.0 c.in_err-low.ensures.1 in
     search (rules, e)
 
 pub returns-in_err-high : goal.returns-in_err-high
@@ -30,7 +31,8 @@ returns-in_err-high c =
     let words = map (string_bytes {Z = Global}) c.args.further.now in
     let s = starts c.args.further.now c.options_end-start.result c.options_end-start.ensures.rest c.options_end-start.ensures.within in
     let fault = c.in_err-high.field-0.0 in
-    let e : cws_answer words ≡ Err fault = cws_high_wrong words _ s c.in_ok-dim.dim c.in_ok-low.low _ c.in_ok-dim.ensures.0 c.in_ok-dim.ensures.1
+    let e : cws_answer words ≡ Err fault =
+    cws_high_wrong words _ s c.in_ok-dim.dim c.in_ok-low.low _ c.in_ok-dim.ensures.0 c.in_ok-dim.ensures.1
     c.in_ok-low.ensures.0 c.in_ok-low.ensures.1 c.highest.ensures fault c.in_err-high.ensures.0 c.in_err-high.ensures.1 in
     search (rules, e)
 
@@ -48,6 +50,7 @@ returns c =
     let s = starts c.args.further.now c.options_end-start.result c.options_end-start.ensures.rest c.options_end-start.ensures.within in
     cws_right words _ s c.in_ok-dim.dim c.in_ok-low.low _ c.in_ok-dim.ensures.0 c.in_ok-dim.ensures.1
     c.in_ok-low.ensures.0 c.in_ok-low.ensures.1 c.highest.ensures c.in_ok-high.ensures.0
-    c.options_end-end.result c.in_ok-high.high c.options_end-end.ensures.rest (simp length-map c.if-end-further.false) c.in_ok-high.ensures.1
+    c.options_end-end.result c.in_ok-high.high c.options_end-end.ensures.rest (simp length-map c.if-end-further.false)
+    c.in_ok-high.ensures.1
     ∙ ap (λ (b : Bool). Ok (Cws (record { dim = c.in_ok-dim.dim; low = c.in_ok-low.low; high = c.in_ok-high.high; reflexive_only = b })))
     (sym c.has_option-reflexive_only.ensures)

@@ -43,7 +43,8 @@ loop-place-preserved c =
     let list_only = given_next (codes "p") words i bytes _ _ next inv.list_only_is c.has_one_of-list_only.ensures in
     let full = given_next (codes "H") words i bytes _ _ next inv.full_is c.has_one_of-full.ensures in
     let is = sym c.is_codim_word.ensures.value in
-    let given = codim_given_next words i bytes next c.loop-place.codim c.is_codim_word.result inv.codim_given c.is_codim_word.ensures.value in
+    let given = codim_given_next words i bytes next c.loop-place.codim c.is_codim_word.result inv.codim_given
+    c.is_codim_word.ensures.value in
     elim c.if-is_codim_word.branch [
       | then-is_codim_word+in-Ok w ↦
           let right = codim_word_fault (take i words) bytes c.loop-place.codim None (is ∙ w.if-is_codim_word.true) inv.codim_given
@@ -54,7 +55,8 @@ loop-place-preserved c =
             full_is = full;
             codim_given = ap is_some w.codim-is ∙ sym (or_true (is_some c.loop-place.codim))
                 ∙ ap (λ (b : Bool). is_some c.loop-place.codim || b) (sym w.if-is_codim_word.true) ∙ given;
-            codim_is = codim_found words i bytes next c.loop-place.codim w.in-Ok.number w.in-Ok.ensures.0 (is ∙ w.if-is_codim_word.true) w.in-Ok.ensures.2 inv.codim_is
+            codim_is = codim_found words i bytes next c.loop-place.codim w.in-Ok.number w.in-Ok.ensures.0 (is ∙ w.if-is_codim_word.true)
+                w.in-Ok.ensures.2 inv.codim_is
                 ∙ sym (ap (λ (o : Option ℕ). unwrap_or o (codim_of (drop (i + 1) words))) w.codim-is);
           }
       | else-is_codim_word+in_default w ↦

@@ -22,6 +22,8 @@ loop-digit-preserved c =
     let i = c.loop-digit.digit-index in
     record {
       written = value_step digits i _ _ c.loop-digit-test.true is_digit c.loop-digit.invariant.written c.from.ensures;
-      digits = digits_more 10 digits i c.loop-digit-test.true c.loop-digit.invariant.digits (omega (arith, c.if-not-is_ascii_digit.ensures.bound));
-      rest = c.loop-digit.invariant.rest ∙ (at_drop_more all_ascii_digits digits i 0 c.loop-digit-test.true ∙ ap (λ (b : Bool). b && all_ascii_digits (drop (i + 1) digits)) is_digit);
+      digits = digits_more 10 digits i c.loop-digit-test.true c.loop-digit.invariant.digits
+          (omega (arith, c.if-not-is_ascii_digit.ensures.bound));
+      rest = c.loop-digit.invariant.rest ∙ (at_drop_more all_ascii_digits digits i 0 c.loop-digit-test.true
+          ∙ ap (λ (b : Bool). b && all_ascii_digits (drop (i + 1) digits)) is_digit);
     }

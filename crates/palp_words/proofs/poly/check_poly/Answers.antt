@@ -14,7 +14,8 @@ loop-place-preserved c =
     let plain = given_next (codes "n") words i bytes _ _ next inv.plain_is c.has_one_of-plain.ensures in
     let dual = given_next (codes "adD") words i bytes _ _ next inv.dual_is c.has_one_of-dual.ensures in
     let right : poly_fault (take i words) bytes ≡ None =
-    ap (λ (b : Bool). letters_fault (codes "gpvemdiarDn") b bytes) (sym (both_next (codes "n") (codes "adD") words i bytes _ _ next plain dual))
+    ap (λ (b : Bool). letters_fault (codes "gpvemdiarDn") b bytes)
+    (sym (both_next (codes "n") (codes "adD") words i bytes _ _ next plain dual))
     ∙ sym c.letters_fault.ensures ∙ c.in_default.is in
     record {
       so_far = inv.so_far ∙ fault_passed poly_fault words i bytes next right;
@@ -32,6 +33,7 @@ returns-in-Some c =
     let plain = given_next (codes "n") words i bytes _ _ next inv.plain_is c.has_one_of-plain.ensures in
     let dual = given_next (codes "adD") words i bytes _ _ next inv.dual_is c.has_one_of-dual.ensures in
     let wrong : poly_fault (take i words) bytes ≡ Some c.in-Some.kind =
-    ap (λ (b : Bool). letters_fault (codes "gpvemdiarDn") b bytes) (sym (both_next (codes "n") (codes "adD") words i bytes _ _ next plain dual))
+    ap (λ (b : Bool). letters_fault (codes "gpvemdiarDn") b bytes)
+    (sym (both_next (codes "n") (codes "adD") words i bytes _ _ next plain dual))
     ∙ sym c.letters_fault.ensures ∙ c.in-Some.is in
     inv.so_far ∙ fault_found poly_fault words i bytes c.in-Some.kind next wrong
