@@ -1,0 +1,4 @@
+pub mod Reports
+pub mod Passing
+pub mod Givings
+pub mod Told

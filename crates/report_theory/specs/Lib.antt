@@ -1,0 +1,4 @@
+pub mod Report
+pub mod Giving
+pub mod Told
+pub mod Laws
