@@ -10,7 +10,7 @@ use Rattle.lattice_theory.proofs.Members.{In, here, there, Each, empty, more, al
 use Rattle.elimination.proofs.Vectors.{dot-scaled_left, length-scaled}
 use Rattle.elimination.proofs.KernelLaws.{kernel_exists_lem}
 use Rattle.elimination.proofs.KernelSize.{empty_kernel_lem, single_kernel_lem, large_kernel_lem}
-use Rattle.facet_theory.specs.Laws.{AreSolid}
+use Rattle.facet_theory.specs.Solid.{AreSolid}
 use Rattle.facet_theory.proofs.Values.{IsAbove, VanishesAlong, Nonzero, find_nonzero}
 use Rattle.facet_theory.proofs.Rays.{IsMultipleOf, multiple_of, multiple_through}
 use Rattle.facet_theory.proofs.Lifted.{vector_of, lifted, in_lifted, lifted_value, lifted_dimension, above_from_nonnegative, multiple_from_vectors}

@@ -8,7 +8,8 @@ use Rattle.lattice_theory.proofs.Integers.{products_out, linear, cancel_left, no
 use Rattle.lattice_theory.proofs.Members.{In, all_from_each}
 use Rattle.elimination.proofs.Vectors.{dot-scaled_left, dot-scaled_right}
 use Rattle.elimination.proofs.Divisibility.{primitive_combination, primitive_nonzero, multiple_of_primitive, primitive_same}
-use Rattle.facet_theory.specs.Laws.{AreSolid, FacetsDiffer}
+use Rattle.facet_theory.specs.Laws.{FacetsDiffer}
+use Rattle.facet_theory.specs.Solid.{AreSolid}
 use Rattle.facet_theory.proofs.Values.{Nonzero, find_nonzero}
 use Rattle.facet_theory.proofs.Lifted.{vector_of, lifted, in_lifted, from_lifted, lifted_value, zero_function}
 use Rattle.facet_theory.proofs.Signs.{nonnegative_same, positive_from, nonnegative_at}

@@ -11,7 +11,8 @@ use Rattle.lattice_theory.proofs.Integers.{linear, nonnegative_factor, positive_
 use Rattle.lattice_theory.proofs.Members.{In, here, Each, more, each_from_all, each_weaker, contains_from_in}
 use Rattle.elimination.proofs.Vectors.{zeros, length-zeros, dot-zeros, dot-nil, zero_from_entries, entry_past}
 use Rattle.facet_theory.specs.Sums.{total_over, IsSumOfFacets}
-use Rattle.facet_theory.specs.Laws.{HullByFacets, HullInBox, FacetsBound, SomePositiveConstant, AreSolid}
+use Rattle.facet_theory.specs.Laws.{HullByFacets, HullInBox, FacetsBound, SomePositiveConstant}
+use Rattle.facet_theory.specs.Solid.{AreSolid}
 use Rattle.facet_theory.proofs.Lifted.{value_at_one, some_point}
 use Rattle.facet_theory.proofs.Generate.{facets_generate_lem}
 use Rattle.facet_theory.proofs.Smallest.{Smallest, smallest_of}

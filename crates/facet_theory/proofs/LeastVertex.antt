@@ -7,7 +7,8 @@ use Rattle.lattice_theory.specs.Hull.{InHull, IsVertex}
 use Rattle.lattice_theory.specs.Facet.{IsFacet}
 use Rattle.lattice_theory.proofs.Integers.{products_out, linear, product_nonnegative, zero_or_not, one-*ℤ, *ℤ-zero}
 use Rattle.lattice_theory.proofs.Members.{In, each_from_all, each_in, in_from_contains, contains_from_in}
-use Rattle.facet_theory.specs.Laws.{AreSolid, LeastAtVertex, FacetsOfVertices}
+use Rattle.facet_theory.specs.Laws.{LeastAtVertex, FacetsOfVertices}
+use Rattle.facet_theory.specs.Solid.{AreSolid}
 use Rattle.facet_theory.proofs.Lifted.{some_point}
 use Rattle.facet_theory.proofs.Others.{in_others}
 use Rattle.facet_theory.proofs.Functions.{mixed, length-mixed, value-mixed, lowered, length-lowered, value-lowered}

@@ -14,6 +14,8 @@ pub mod Others
 pub mod Functions
 pub mod Peak
 pub mod LeastVertex
+pub mod VertexHull
+pub mod DilateBoxes
 pub mod Order
 pub mod Candidates
 pub mod Listed

@@ -7,7 +7,7 @@ use Rattle.elimination.specs.Laws.{IsVectorMultiple}
 use Rattle.lattice_theory.proofs.Integers.{products_out, linear}
 use Rattle.lattice_theory.proofs.Members.{In, here, there, Each, more, all_from_each, each_from_all, each_in, each_from_in, in_from_contains, contains_from_in}
 use Rattle.elimination.proofs.Vectors.{unit, length-unit, entry-unit_same, zero_or_ends, zero_from_entries}
-use Rattle.facet_theory.specs.Laws.{AreSolid}
+use Rattle.facet_theory.specs.Solid.{AreSolid}
 use Rattle.facet_theory.proofs.Values.{dot-zero, IsAbove, VanishesAlong, IsSolid}
 use Rattle.facet_theory.proofs.Rays.{IsMultipleOf, multiple_of, vector_multiple}
 use Rattle.facet_theory.proofs.Signs.{nonnegative_same, nonnegative_at, nonnegative_from}

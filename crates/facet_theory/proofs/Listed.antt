@@ -6,7 +6,8 @@ use Rattle.lattice_theory.specs.Order.{FunctionLess}
 use Rattle.lattice_theory.specs.Facet.{IsFacet, AreFacets}
 use Rattle.lattice_theory.proofs.Integers.{zero_or_not}
 use Rattle.lattice_theory.proofs.Members.{In, here, there, Each, each_in, each_weaker, each_append, in_append_left, in_append_right, in_from_contains, contains_from_in}
-use Rattle.facet_theory.specs.Laws.{AreSolid, FacetsAreListed}
+use Rattle.facet_theory.specs.Laws.{FacetsAreListed}
+use Rattle.facet_theory.specs.Solid.{AreSolid}
 use Rattle.facet_theory.proofs.Lifted.{vector_of, lifted}
 use Rattle.facet_theory.proofs.Candidates.{Candidates, candidates}
 use Rattle.facet_theory.proofs.Order.{compare_functions, Sorted, sort}

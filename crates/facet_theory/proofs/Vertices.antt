@@ -8,7 +8,8 @@ use Rattle.lattice_theory.proofs.Integers.{linear, negative_or_not, zero_or_not,
 use Rattle.lattice_theory.proofs.Members.{In, here, there, Each, more, each_from_all, in_from_contains, contains_from_in, each_weaker}
 use Rattle.elimination.proofs.Vectors.{zeros, length-zeros, dot-zeros}
 use Rattle.facet_theory.specs.Sums.{total_over, IsSumOfFacets}
-use Rattle.facet_theory.specs.Laws.{AreSolid, VerticesByFacets}
+use Rattle.facet_theory.specs.Laws.{VerticesByFacets}
+use Rattle.facet_theory.specs.Solid.{AreSolid}
 use Rattle.facet_theory.proofs.Lifted.{value_at_one}
 use Rattle.facet_theory.proofs.Generate.{facets_generate_lem}
 use Rattle.facet_theory.proofs.Others.{same_or_not, to_others}

@@ -1,17 +1,14 @@
 -- The theorem on facets and what follows from it, as statements about points of dimension n that aren't flat.
-use Rattle.std.specs.Prelude.{◌≡◌, ◌↔◌, ℕ, ◌<◌, List, length, ℤ, pos, ◌≤ℤ◌, ◌<ℤ◌}
+use Rattle.std.specs.Prelude.{◌≡◌, ◌↔◌, ℕ, ◌<◌, ◌≤◌, List, length, ℤ, pos, ◌*ℤ◌, ◌≤ℤ◌, ◌<ℤ◌}
 use Rattle.std.specs.List.{All, Contains}
 use Rattle.lattice_theory.specs.Vector.{entry, dot, HaveDimension}
 use Rattle.lattice_theory.specs.Affine.{Affine, value, IsNonnegative, Vanishes, VanishesWith, IsMultiple}
-use Rattle.lattice_theory.specs.Hull.{InHull, IsVertex}
-use Rattle.lattice_theory.specs.Facet.{IsFlat, IsFacet, AreFacets}
+use Rattle.lattice_theory.specs.Size.{size}
+use Rattle.lattice_theory.specs.Hull.{InHull, IsVertex, AreVerticesInAnyOrder}
+use Rattle.lattice_theory.specs.Facet.{IsFacet, AreFacets}
+use Rattle.lattice_theory.specs.Points.{IsLatticePoint, IsDilatePoint}
+use Rattle.facet_theory.specs.Solid.{AreSolid}
 use Rattle.facet_theory.specs.Sums.{IsSumOfFacets}
-
--- what the laws suppose: at least one coordinate, and points with n coordinates that aren't flat. This project's own.
-pub record AreSolid (n : ℕ) (points : List (List ℤ)) : Type 0 where
-  pub coordinates : 0 < n
-  pub dimension : HaveDimension n points
-  pub solid : IsFlat n points → ⊥
 
 -- the theorem on facets: each function that is nonnegative on the points is, up to a positive multiple, a sum of facets
 abbrev pub FacetsGenerate : Type 0
@@ -68,5 +65,42 @@ LeastAtVertex = (n : ℕ) (points : List (List ℤ)) → AreSolid n points → (
 
 -- the vertices have the facets of the points
 abbrev pub FacetsOfVertices : Type 0
-FacetsOfVertices = (n : ℕ) (points vertices : List (List ℤ)) → AreSolid n points
-    → ((v : List ℤ) → Contains vertices v ↔ IsVertex n points v) → (f : Affine) → IsFacet n points f ↔ IsFacet n vertices f
+FacetsOfVertices = (n : ℕ) (points vertices : List (List ℤ)) → AreSolid n points → AreVerticesInAnyOrder n points vertices
+    → (f : Affine) → IsFacet n points f ↔ IsFacet n vertices f
+
+-- they aren't flat, and have n coordinates
+abbrev pub VerticesAreSolid : Type 0
+VerticesAreSolid = (n : ℕ) (points vertices : List (List ℤ)) → AreSolid n points → AreVerticesInAnyOrder n points vertices → AreSolid n vertices
+
+-- there is one
+abbrev pub SomeVertex : Type 0
+SomeVertex = (n : ℕ) (points vertices : List (List ℤ)) → AreSolid n points → AreVerticesInAnyOrder n points vertices → 0 < length vertices
+
+-- their size is at most that of the points (also where these are flat)
+abbrev pub VerticesAreSmall : Type 0
+VerticesAreSmall = (n : ℕ) (points vertices : List (List ℤ)) → AreVerticesInAnyOrder n points vertices → size n vertices ≤ size n points
+
+-- they have the hull of the points
+abbrev pub HullOfVertices : Type 0
+HullOfVertices = (n : ℕ) (points vertices : List (List ℤ)) → AreSolid n points → AreVerticesInAnyOrder n points vertices
+    → (x : List ℤ) → InHull n points x ↔ InHull n vertices x
+
+-- so they have its lattice points
+abbrev pub LatticePointsOfVertices : Type 0
+LatticePointsOfVertices = (n : ℕ) (points vertices : List (List ℤ)) → AreSolid n points → AreVerticesInAnyOrder n points vertices
+    → (x : List ℤ) → IsLatticePoint n points x ↔ IsLatticePoint n vertices x
+
+-- and those of its dilates
+abbrev pub DilatePointsOfVertices : Type 0
+DilatePointsOfVertices = (n : ℕ) (points vertices : List (List ℤ)) → AreSolid n points → AreVerticesInAnyOrder n points vertices
+    → (j : ℕ) (x : List ℤ) → IsDilatePoint n points j x ↔ IsDilatePoint n vertices j x
+
+-- the lattice points of the hull are those of the first dilate
+abbrev pub FirstDilateIsHull : Type 0
+FirstDilateIsHull = (n : ℕ) (points : List (List ℤ)) → AreSolid n points → (x : List ℤ) → IsDilatePoint n points 1 x ↔ IsLatticePoint n points x
+
+-- the j-th dilate lies in the j-th dilate of each box that holds the points
+abbrev pub DilateInBox : Type 0
+DilateInBox = (n : ℕ) (points : List (List ℤ)) → AreSolid n points → (j : ℕ) (x : List ℤ) → IsDilatePoint n points j x
+    → (i : ℕ) → i < n → (low high : ℤ) → All (λ p. (low ≤ℤ entry p i) × (entry p i ≤ℤ high)) points
+    → ((pos j *ℤ low) ≤ℤ entry x i) × (entry x i ≤ℤ (pos j *ℤ high))

@@ -6,4 +6,5 @@ pub use Rattle.lattice_theory.specs.Hull
 pub use Rattle.lattice_theory.specs.Facet
 pub use Rattle.lattice_theory.specs.Points
 pub mod Sums
+pub mod Solid
 pub mod Laws

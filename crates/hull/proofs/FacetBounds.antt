@@ -12,7 +12,7 @@ use Rattle.lattice_theory.proofs.Integers.{products_out, linear}
 use Rattle.lattice_theory.proofs.Members.{empty, all_from_each}
 use Rattle.elimination.proofs.Divisibility.{primitive_nonzero}
 use Rattle.elimination.proofs.Vectors.{nonzero_entry}
-use Rattle.facet_theory.specs.Laws.{AreSolid}
+use Rattle.facet_theory.specs.Solid.{AreSolid}
 use Rattle.facet_theory.proofs.FacetPoints.{facet_by_points_lem}
 use Rattle.normal_bounds.specs.Bounds.{IsFixedBy}
 use Rattle.normal_bounds.proofs.Sizes.{all_within, point_absolute_sum_lem}

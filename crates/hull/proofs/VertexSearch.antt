@@ -11,7 +11,7 @@ use Rattle.lattice_theory.specs.Order.{Ascends, LexLess}
 use Rattle.lattice_theory.specs.Facet.{IsFlat, AreFacetsInAnyOrder}
 use Rattle.lattice_theory.proofs.Integers.{linear}
 use Rattle.lattice_theory.proofs.Members.{Each, empty, more, each_from_all, all_from_each}
-use Rattle.facet_theory.specs.Laws.{AreSolid}
+use Rattle.facet_theory.specs.Solid.{AreSolid}
 use Rattle.facet_theory.proofs.Vertices.{vertices_by_facets_lem}
 use Rattle.normal_bounds.proofs.Numbers.{entries_fit_lem}
 use Rattle.hull.specs.Tight.{LiesWith, LiesAlone}

@@ -3,7 +3,7 @@ use Rattle.std.specs.Prelude.{ℕ, List, ℤ}
 use Rattle.lattice_theory.specs.Affine.{Affine}
 use Rattle.lattice_theory.specs.Size.{size}
 use Rattle.lattice_theory.specs.Facet.{IsFacet}
-use Rattle.facet_theory.specs.Laws.{AreSolid}
+use Rattle.facet_theory.specs.Solid.{AreSolid}
 use Rattle.hull.specs.Bounded.{IsWithin}
 
 -- each facet of points that aren't flat has a normal with entries of at most (2S)^(n-1) and a constant of at most (2S)^(n-1) S, for their size S

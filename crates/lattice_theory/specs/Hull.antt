@@ -1,5 +1,5 @@
 -- The hull of finitely many points, and its vertices (math/0204356, section 2: a polytope is an intersection of half spaces).
-use Rattle.std.specs.Prelude.{◌≡◌, ℕ, List, length, ℤ, pos, ◌≤ℤ◌}
+use Rattle.std.specs.Prelude.{◌≡◌, ◌↔◌, ℕ, List, length, ℤ, pos, ◌≤ℤ◌}
 use Rattle.std.specs.List.{Contains}
 use Rattle.lattice_theory.specs.Vector.{others}
 use Rattle.lattice_theory.specs.Affine.{Affine, value, IsNonnegative}
@@ -17,3 +17,7 @@ pub record IsVertex (n : ℕ) (points : List (List ℤ)) (v : List ℤ) : Type 0
 -- all vertices, each once, in lexicographic order
 abbrev pub AreVertices : ℕ → List (List ℤ) → List (List ℤ) → Type 0
 AreVertices n points vs = Lists LexLess (IsVertex n points) vs
+
+-- all vertices and nothing else, in any order
+abbrev pub AreVerticesInAnyOrder : ℕ → List (List ℤ) → List (List ℤ) → Type 0
+AreVerticesInAnyOrder n points vs = (v : List ℤ) → Contains vs v ↔ IsVertex n points v

@@ -13,7 +13,7 @@ use Rattle.lattice_core.specs.Dimensions.{dimension_of}
 use Rattle.lattice_theory.proofs.Members.{In, here, there, each_from_all, all_from_each, each_from_in, each_in, in_from_contains, contains_from_in}
 use Rattle.lattice_theory.proofs.Sizes.{within_reach}
 use Rattle.lattice_core.proofs.Dimension.{dimension_is}
-use Rattle.facet_theory.specs.Laws.{AreSolid}
+use Rattle.facet_theory.specs.Solid.{AreSolid}
 use Rattle.facet_theory.proofs.Functions.{mixed, length-mixed, value-mixed}
 use Rattle.facet_theory.proofs.Hull.{hull_by_facets_lem}
 use Rattle.facet_theory.proofs.Lifted.{value_at_one}

@@ -7,7 +7,7 @@ use Rattle.lattice_theory.specs.Vector.{HaveDimension}
 use Rattle.lattice_theory.specs.Affine.{Affine}
 use Rattle.lattice_theory.specs.Size.{size, absolute_sum}
 use Rattle.lattice_theory.specs.Facet.{IsFacet, AreFacetsInAnyOrder}
-use Rattle.facet_theory.specs.Laws.{AreSolid}
+use Rattle.facet_theory.specs.Solid.{AreSolid}
 use Rattle.facet_theory.proofs.FacetPoints.{facet_by_points_lem}
 use Rattle.normal_bounds.specs.Bounds.{IsFixedBy}
 use Rattle.normal_bounds.proofs.Products.{functions_fit_lem}

@@ -11,7 +11,7 @@ use Rattle.lattice_theory.specs.Facet.{AreFacetsInAnyOrder}
 use Rattle.lattice_theory.specs.Points.{IsLatticePoint, AreLatticePoints, IsDilatePoint}
 use Rattle.lattice_theory.proofs.Integers.{difference_from, order_from}
 use Rattle.lattice_theory.proofs.Members.{In, each_from_in, each_in, in_from_contains, contains_from_in}
-use Rattle.facet_theory.specs.Laws.{AreSolid}
+use Rattle.facet_theory.specs.Solid.{AreSolid}
 use Rattle.facet_theory.proofs.Lifted.{value_at_one}
 use Rattle.facet_theory.proofs.Signs.{nonnegative_same, nonnegative_from}
 use Rattle.facet_theory.proofs.Coordinates.{above_low, below_high, length-above_low, length-below_high, above_low-over, below_high-over, above_low-value, below_high-value}

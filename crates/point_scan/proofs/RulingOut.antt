@@ -7,7 +7,7 @@ use Rattle.lattice_theory.specs.Affine.{Affine}
 use Rattle.lattice_theory.specs.Size.{absolute_sum}
 use Rattle.lattice_theory.specs.Facet.{AreFacetsInAnyOrder}
 use Rattle.lattice_core.specs.Limits.{IsSized}
-use Rattle.facet_theory.specs.Laws.{AreSolid}
+use Rattle.facet_theory.specs.Solid.{AreSolid}
 use Rattle.point_scan.proofs.Constants.{constants_small}
 use Rattle.point_scan.proofs.ScanWalks.{IsAt}
 use Rattle.point_scan.proofs.AbsoluteSums.{low_small, high_small, position_small}

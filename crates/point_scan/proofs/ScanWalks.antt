@@ -13,7 +13,7 @@ use Rattle.lattice_theory.proofs.GridLists.{grid_lists}
 use Rattle.lattice_theory.proofs.LexPlaces.{agrees_between, at_most_less}
 use Rattle.lattice_theory.proofs.LexWalks.{AreBefore, AreUpTo, none_before, one_more, passed_over, moved_on, all_found, found_first, behind_less}
 use Rattle.lattice_theory.proofs.Members.{in_from_contains}
-use Rattle.facet_theory.specs.Laws.{AreSolid}
+use Rattle.facet_theory.specs.Solid.{AreSolid}
 use Rattle.point_scan.specs.Dilates.{AreDilatePoints}
 use Rattle.point_scan.specs.ScanSteps.{AreCorners, PassesOver, is_inside, IsRuledOut}
 use Rattle.point_scan.proofs.DilatePoints.{dilate_in_box, inside_is_dilate, dilate_is_inside, inside_are_dilate_points}

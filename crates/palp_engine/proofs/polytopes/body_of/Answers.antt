@@ -4,7 +4,7 @@ use Rattle.std.proofs.lemmas.Result.{err_from_is_err_and}
 use Rattle.hull.specs.Faults.{IsFacetsFault, IsVerticesFault}
 use Rattle.palp_engine.proofs.HullStops.{facets_stop, vertices_stop}
 use Rattle.lattice_core.specs.Dimensions.{dimension_of}
-use Rattle.facet_theory.specs.Laws.{AreSolid}
+use Rattle.facet_theory.specs.Solid.{AreSolid}
 use Rattle.palp_engine.specs.Reports.{HaveFewFacets, many_points}
 use Rattle.palp_engine.proofs.VertexLists.{CanCount, can_count, counts_lattice}
 use Rattle.palp_engine.proofs.CountedPoints.{ArePassed, passed, many_counted, few_counted}

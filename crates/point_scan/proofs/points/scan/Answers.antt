@@ -3,7 +3,7 @@ use Rattle.std.specs.Prelude.{List, ℤ}
 use Rattle.lattice_theory.specs.Grid.{LexAtMost, IsInBox, IsNext, Follows}
 use Rattle.lattice_core.specs.declared.limits.TheConstants.{MOST_POINTS}
 use Rattle.lattice_core.specs.Dimensions.{dimension_of}
-use Rattle.facet_theory.specs.Laws.{AreSolid}
+use Rattle.facet_theory.specs.Solid.{AreSolid}
 use Rattle.point_scan.proofs.ScanWalks.{IsPast, fewer_moved, at_start, advanced, finished, kept, passed, has_more, at_moved, past_moved}
 use Rattle.point_scan.proofs.RulingOut.{CanRuleOut, can_rule_out}
 use Rattle.point_scan.proofs.AbsoluteSums.{corner_in_box}
