@@ -4,7 +4,7 @@ use Rattle.lattice_theory.specs.Vector.{entry, dot}
 use Rattle.elimination.specs.Elimination.{Member, ArePivots}
 use Rattle.lattice_theory.proofs.Integers.{products_out, linear, positive_or_negative, *ℤ-zero, product_positive, minus_one-*ℤ}
 use Rattle.lattice_theory.proofs.Members.{Each, empty, more, In, each_head, each_tail, in_append_left, in_append_right, in_append_cases, in_from_contains, contains_from_in}
-use Rattle.elimination.proofs.Vectors.{combined, length-combined, entry-combined, dot-combined_left}
+use Rattle.lattice_theory.proofs.Vectors.{combined, length-combined, entry-combined, dot-combined_left}
 use Rattle.elimination.proofs.KernelForm.{IsMember, IsApart, Kernel, apart_head, kernel_in, kernel_out}
 use Rattle.elimination.proofs.KernelStep.{Reduces, Reduced, none_left, one_left, kernel_step, kernel_stays}
 use Rattle.elimination.proofs.KernelPivot.{Pivot, pivot_or_not, kernel_front}

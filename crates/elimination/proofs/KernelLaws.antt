@@ -6,7 +6,7 @@ use Rattle.elimination.specs.Elimination.{Member, IsKernel, ArePivots, IsReduced
 use Rattle.elimination.specs.Laws.{KernelExists, KernelGrows, KernelStarts, KernelStays, KernelSteps}
 use Rattle.lattice_theory.proofs.Integers.{products_out, linear, neg-*ℤ}
 use Rattle.lattice_theory.proofs.Members.{Each, each_head, each_tail, each_from_all, each_left, each_right}
-use Rattle.elimination.proofs.Vectors.{combined, length-combined, length-scaled, entry-combined, entry-scaled, dot-combined_left, dot-scaled_left, same_from_entries}
+use Rattle.lattice_theory.proofs.Vectors.{combined, length-combined, length-scaled, entry-combined, entry-scaled, dot-combined_left, dot-scaled_left, same_from_entries}
 use Rattle.elimination.proofs.KernelForm.{IsMember, Kernel, kernel_in, kernel_out}
 use Rattle.elimination.proofs.KernelStep.{Reduces, Reduced, none_left, one_left, kernel_step, kernel_stays}
 use Rattle.elimination.proofs.KernelPivot.{kernel_front}

@@ -1,12 +1,12 @@
 -- What the own places tell: a vector of the kernel with 0 at all own places but one is a multiple of that member.
 use Rattle.std.proofs.Common.{◌≡◌, ◌≢◌, ℕ, ◌<◌, ◌≤◌, List, [], ◌∷◌, ◌++◌, length, ℤ, pos, ◌+ℤ◌, ◌*ℤ◌, ⊎_elim, refl, sym, ap, ◌∙◌, subst, arith}
 use Rattle.std.proofs.lemmas.Bool.{cases_lt}
-use Rattle.lattice_theory.specs.Vector.{entry, dot, scaled, EndsAt}
+use Rattle.lattice_theory.specs.Vector.{entry, dot, scaled, EndsAt, IsVectorMultiple}
 use Rattle.elimination.specs.Elimination.{Member, pairings, IsCombination}
-use Rattle.elimination.specs.Laws.{IsVectorMultiple, KernelMember, KernelEarliest}
+use Rattle.elimination.specs.Laws.{KernelMember, KernelEarliest}
 use Rattle.lattice_theory.proofs.Integers.{products_out, linear, factor_zero, positive_nonzero, zero-*ℤ, *ℤ-zero, *ℤ_comm}
 use Rattle.lattice_theory.proofs.Members.{Each, empty, more, each_head, each_tail, each_from_all, each_weaker}
-use Rattle.elimination.proofs.Vectors.{unit, dot_comm, dot-unit, dot-scaled_left, length-scaled, same_from_pairings, place_within}
+use Rattle.lattice_theory.proofs.Vectors.{unit, dot_comm, dot-unit, dot-scaled_left, length-scaled, same_from_pairings, place_within}
 use Rattle.elimination.proofs.KernelForm.{Kills, IsMember, IsApart, Apart, Kernel, apart_head, apart_tail, kernel_in}
 use Rattle.elimination.proofs.KernelPivot.{kernel_front}
 use Rattle.elimination.proofs.KernelSize.{multiplier_nonzero, entry_multiple}

@@ -1,12 +1,12 @@
 -- What the number of a kernel's members says: none, one, or more; and the few vectors that determine a line.
 use Rattle.std.proofs.Common.{◌≡◌, ◌≢◌, ℕ, ◌+◌, ◌<◌, ◌≤◌, List, [], ◌∷◌, length, ℤ, pos, ◌+ℤ◌, ◌*ℤ◌, ⊎_elim, refl, sym, ap, ◌∙◌, All, Contains, arith}
 use Rattle.std.proofs.lemmas.Bool.{cases_lt}
-use Rattle.lattice_theory.specs.Vector.{entry, dot, scaled}
+use Rattle.lattice_theory.specs.Vector.{entry, dot, scaled, IsVectorMultiple}
 use Rattle.elimination.specs.Elimination.{Member, pairings, IsCombination, ArePivots}
-use Rattle.elimination.specs.Laws.{IsVectorMultiple, EmptyKernel, SingleKernel, LargeKernel, FewDetermine}
+use Rattle.elimination.specs.Laws.{EmptyKernel, SingleKernel, LargeKernel, FewDetermine}
 use Rattle.lattice_theory.proofs.Integers.{linear, factor_zero, positive_nonzero, product_nonzero, *ℤ-zero, zero-*ℤ, *ℤ_comm}
 use Rattle.lattice_theory.proofs.Members.{empty, more, each_head, each_tail, each_from_all, all_from_each}
-use Rattle.elimination.proofs.Vectors.{dot-scaled_left, dot-unit, dot_comm, unit, length-scaled, entry-scaled, entry_past, same_from_pairings, zero_from_entries}
+use Rattle.lattice_theory.proofs.Vectors.{dot-scaled_left, dot-unit, dot_comm, unit, length-scaled, entry-scaled, entry_past, same_from_pairings, zero_from_entries}
 use Rattle.elimination.proofs.KernelForm.{Kills, Kernel, apart_head, kernel_in}
 use Rattle.elimination.proofs.KernelGrowth.{kernel_of}
 

@@ -2,10 +2,10 @@
 use Rattle.std.proofs.lemmas.Bool.{cases_eq}
 use Rattle.std.proofs.Common.{⊎_elim, ◌≡◌, ◌≢◌, ℕ, zero, suc, ◌<◌, List, [], ◌∷◌, length, map, get_or, ℤ, pos, refl, sym, ap, ap₂, ◌∙◌, subst, arith, ext_get_or}
 use Rattle.lattice_theory.specs.Vector.{entry, dot}
-use Rattle.elimination.specs.Elimination.{Member, pairings, ArePivots, IsUnit}
+use Rattle.elimination.specs.Elimination.{Member, pairings, ArePivots, IsUnitMember}
 use Rattle.lattice_theory.proofs.Integers.{products_out, linear}
 use Rattle.lattice_theory.proofs.Members.{Each, empty, more}
-use Rattle.elimination.proofs.Vectors.{zeros, length-zeros, entry-zeros, dot-zeros, same_from_entries}
+use Rattle.lattice_theory.proofs.Vectors.{zeros, length-zeros, entry-zeros, dot-zeros, same_from_entries}
 use Rattle.elimination.proofs.KernelForm.{IsMember, IsApart, Apart, none, one_more, Kernel, kernel_out}
 
 -- a member one place further on, behind an entry 0
@@ -105,26 +105,29 @@ pub units_pivots : (m : ℕ) → ArePivots m [] [] (units m)
 units_pivots m = record { chosen = λ v c. c; count = let e = length-units m in omega arith; kernel = kernel_out (units_kernel m) }
 
 -- a list of unit members is that list
-is_unit_front : (m : ℕ) → IsUnit (suc m) 0 (record { own = 0; vector = pos 1 ∷ zeros m })
-is_unit_front m = record { own = refl; dimension = ap suc (length-zeros m); one = refl; zeros = λ j. later j }
+is_unit_front : (m : ℕ) → IsUnitMember (suc m) 0 (record { own = 0; vector = pos 1 ∷ zeros m })
+is_unit_front m = record { own = refl; unit = record { dimension = ap suc (length-zeros m); one = refl; zeros = λ j. later j } }
   where
     later : (j : ℕ) → j ≢ 0 → entry (pos 1 ∷ zeros m) j ≡ pos 0
     later zero n = absurd (n refl)
     later (suc j) n = entry-zeros m j
 
 -- one place further on
-is_unit_behind : {m i : ℕ} {k : Member} → IsUnit m i k → IsUnit (suc m) (suc i) (behind k)
-is_unit_behind {m = m} {i = i} {k = k} h = record { own = ap suc h.own; dimension = ap suc h.dimension; one = h.one; zeros = λ j. later j }
+is_unit_behind : {m i : ℕ} {k : Member} → IsUnitMember m i k → IsUnitMember (suc m) (suc i) (behind k)
+is_unit_behind {m = m} {i = i} {k = k} h = record {
+  own = ap suc h.own;
+  unit = record { dimension = ap suc h.unit.dimension; one = h.unit.one; zeros = λ j. later j };
+}
   where
     later : (j : ℕ) → j ≢ suc i → entry (pos 0 ∷ k.vector) j ≡ pos 0
     later zero n = refl
-    later (suc j) n = h.zeros j (λ e. n (ap suc e))
+    later (suc j) n = h.unit.zeros j (λ e. n (ap suc e))
 
 -- the units are unit members
-units_are : (m i : ℕ) (d : Member) → i < m → IsUnit m i (get_or (units m) i d)
+units_are : (m i : ℕ) (d : Member) → i < m → IsUnitMember m i (get_or (units m) i d)
 units_are zero i d h = absurd (omega arith)
 units_are (suc m) zero d h = is_unit_front m
-units_are (suc m) (suc i) d h = subst (IsUnit (suc m) (suc i)) (sym (at (units m) i (let e = length-units m in omega arith))) (is_unit_behind (units_are m i d (omega arith)))
+units_are (suc m) (suc i) d h = subst (IsUnitMember (suc m) (suc i)) (sym (at (units m) i (let e = length-units m in omega arith))) (is_unit_behind (units_are m i d (omega arith)))
   where
     at : (ks : List Member) (j : ℕ) → j < length ks → get_or (map behind ks) j d ≡ behind (get_or ks j d)
     at [] j l = absurd (omega arith)
@@ -132,14 +135,14 @@ units_are (suc m) (suc i) d h = subst (IsUnit (suc m) (suc i)) (sym (at (units m
     at (k ∷ ks) (suc j) l = at ks j (omega arith)
 
 -- two unit members of one place have the same entries
-unit_entries : {m i : ℕ} {k l : Member} → IsUnit m i k → IsUnit m i l → (j : ℕ) → entry k.vector j ≡ entry l.vector j
-unit_entries {i = i} h h' j = ⊎_elim (λ (e : j ≡ i). rw e (h.one ∙ sym h'.one)) (λ (n : j ≢ i). h.zeros j n ∙ sym (h'.zeros j n)) (cases_eq j i)
+unit_entries : {m i : ℕ} {k l : Member} → IsUnitMember m i k → IsUnitMember m i l → (j : ℕ) → entry k.vector j ≡ entry l.vector j
+unit_entries {i = i} h h' j = ⊎_elim (λ (e : j ≡ i). rw e (h.unit.one ∙ sym h'.unit.one)) (λ (n : j ≢ i). h.unit.zeros j n ∙ sym (h'.unit.zeros j n)) (cases_eq j i)
 
 -- so they are the same
-unit_same : {m i : ℕ} {k l : Member} → IsUnit m i k → IsUnit m i l → k ≡ l
-unit_same {k = k} {l = l} h h' = let o = h.own ∙ sym h'.own in let e = same_from_entries k.vector l.vector (h.dimension ∙ sym h'.dimension) (unit_entries h h') in
+unit_same : {m i : ℕ} {k l : Member} → IsUnitMember m i k → IsUnitMember m i l → k ≡ l
+unit_same {k = k} {l = l} h h' = let o = h.own ∙ sym h'.own in let e = same_from_entries k.vector l.vector (h.unit.dimension ∙ sym h'.unit.dimension) (unit_entries h h') in
     ap₂ (λ (i : ℕ) (x : List ℤ). record { own = i; vector = x }) o e
 
 -- so such a list is the list of the units
-pub units_from : (m : ℕ) (ks : List Member) → length ks ≡ m → ((i : ℕ) (d : Member) → i < m → IsUnit m i (get_or ks i d)) → ks ≡ units m
+pub units_from : (m : ℕ) (ks : List Member) → length ks ≡ m → ((i : ℕ) (d : Member) → i < m → IsUnitMember m i (get_or ks i d)) → ks ≡ units m
 units_from m ks e h = let d : Member = record { own = 0; vector = [] } in ext_get_or d ks (units m) (e ∙ sym (length-units m)) (λ i l. unit_same (h i d (omega arith)) (units_are m i d (omega arith)))

@@ -1,5 +1,3 @@
-pub mod Vectors
-pub mod Divisibility
 pub mod KernelForm
 pub mod KernelStep
 pub mod KernelPivot
@@ -7,7 +5,5 @@ pub mod KernelStart
 pub mod KernelGrowth
 pub mod KernelLaws
 pub mod KernelSize
-pub mod PrimitiveLaws
 pub mod KernelPlaces
 pub mod Examples
-pub mod FlatUnique

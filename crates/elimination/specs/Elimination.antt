@@ -1,7 +1,7 @@
 -- Elimination over the integers, without fractions: the vectors that annihilate a list of vectors. This project's own.
 use Rattle.std.specs.Prelude.{◌≡◌, ◌≢◌, ℕ, ◌+◌, ◌<◌, List, [], ◌∷◌, length, ℤ, pos, ◌+ℤ◌, ◌-ℤ◌, ◌*ℤ◌, ◌<ℤ◌}
 use Rattle.std.specs.List.{All, Contains}
-use Rattle.lattice_theory.specs.Vector.{entry, dot, EndsAt}
+use Rattle.lattice_theory.specs.Vector.{entry, dot, EndsAt, IsUnitVector}
 
 -- a vector of the kernel, with the place that it alone of the kernel's vectors uses
 pub record Member : Type 0 where
@@ -47,12 +47,10 @@ pub record ArePivots (m : ℕ) (vectors pivots : List (List ℤ)) (ks : List Mem
   pub count : length pivots + length ks ≡ m
   pub kernel : IsKernel m pivots ks
 
--- the member e_i of the kernel of no vectors: 1 at its own place i, and 0 elsewhere
-pub record IsUnit (m i : ℕ) (k : Member) : Type 0 where
+-- the member e_i of the kernel of no vectors: the i-th unit vector, with its own place i
+pub record IsUnitMember (m i : ℕ) (k : Member) : Type 0 where
   pub own : k.own ≡ i
-  pub dimension : length k.vector ≡ m
-  pub one : entry k.vector i ≡ pos 1
-  pub zeros : (j : ℕ) → j ≢ i → entry k.vector j ≡ pos 0
+  pub unit : IsUnitVector m i k.vector
 
 -- l is what the vector v and the pivot p make of the member k: some multiple of it is <p,v> k - <k,v> p
 pub record IsReduced (p : Member) (v : List ℤ) (k l : Member) : Type 0 where

@@ -1,8 +1,8 @@
 -- The laws of elimination, as statements.
-use Rattle.std.specs.Prelude.{◌≡◌, ◌≢◌, ◌⊎◌, ℕ, ◌+◌, ◌<◌, ◌≤◌, List, [], ◌∷◌, ◌++◌, length, ℤ, pos, negsuc, ◌*ℤ◌, slice_index_or}
+use Rattle.std.specs.Prelude.{◌≡◌, ◌≢◌, ℕ, ◌+◌, ◌<◌, ◌≤◌, List, [], ◌∷◌, ◌++◌, length, ℤ, pos, slice_index_or}
 use Rattle.std.specs.List.{All, AllZip, Contains}
-use Rattle.lattice_theory.specs.Vector.{entry, EndsAt, dot, scaled, IsPrimitive, HaveDimension}
-use Rattle.elimination.specs.Elimination.{Member, Annihilates, IsKernel, ArePivots, IsUnit, IsReduced}
+use Rattle.lattice_theory.specs.Vector.{entry, EndsAt, dot, HaveDimension, IsVectorMultiple}
+use Rattle.elimination.specs.Elimination.{Member, Annihilates, IsKernel, ArePivots, IsUnitMember, IsReduced}
 
 -- every list of vectors of length m has a kernel, with pivots
 abbrev pub KernelExists : Type 0
@@ -17,7 +17,7 @@ KernelGrows = (m : ℕ) (vectors pivots : List (List ℤ)) (ks : List Member) (v
 
 -- the unit members are the kernel of no vectors
 abbrev pub KernelStarts : Type 0
-KernelStarts = (m : ℕ) (ks : List Member) → length ks ≡ m → ((i : ℕ) (d : Member) → i < m → IsUnit m i (slice_index_or ks i d))
+KernelStarts = (m : ℕ) (ks : List Member) → length ks ≡ m → ((i : ℕ) (d : Member) → i < m → IsUnitMember m i (slice_index_or ks i d))
     → IsKernel m [] ks × ArePivots m [] [] ks
 
 -- a vector that each member annihilates changes neither the kernel nor its pivots
@@ -32,13 +32,6 @@ KernelSteps = (m : ℕ) (vectors pivots : List (List ℤ)) (before : List Member
     → IsKernel m vectors (before ++ (p ∷ after)) → ArePivots m vectors pivots (before ++ (p ∷ after))
     → All (λ k. dot k.vector v ≡ pos 0) before → dot p.vector v ≢ pos 0 → All (λ k. p.own ≤ k.own) after → AllZip (IsReduced p v) after next
     → IsKernel m (vectors ++ (v ∷ [])) (before ++ next) × ArePivots m (vectors ++ (v ∷ [])) (pivots ++ (v ∷ [])) (before ++ next)
-
--- the vector g is a rational multiple of f: q g = p f with integers p and q, and q isn't 0. This project's own.
-pub record IsVectorMultiple (g f : List ℤ) : Type 0 where
-  pub left : ℤ
-  pub right : ℤ
-  pub nonzero : left ≢ pos 0
-  pub same : scaled left g ≡ scaled right f
 
 -- with an empty kernel only 0 annihilates the vectors
 abbrev pub EmptyKernel : Type 0
@@ -72,17 +65,3 @@ FewDetermine = (m : ℕ) (vectors : List (List ℤ)) → HaveDimension m vectors
     → ((g : List ℤ) → length g ≡ m → Annihilates vectors g → IsVectorMultiple g f)
     → (pivots : List (List ℤ)) × (length pivots + 1 ≡ m) × ((v : List ℤ) → Contains pivots v → Contains vectors v)
     × ((g : List ℤ) → length g ≡ m → Annihilates pivots g → Annihilates vectors g)
-
--- an integer vector x with q x = p f, where f is primitive and q isn't 0, is an integer multiple k f, and p is q k
-abbrev pub PrimitiveMultiple : Type 0
-PrimitiveMultiple = (q p : ℤ) (x f : List ℤ) → q ≢ pos 0 → IsPrimitive f → scaled q x ≡ scaled p f
-    → (k : ℤ) × (p ≡ q *ℤ k) × (x ≡ scaled k f)
-
--- each vector that isn't 0 is a positive multiple of a primitive vector
-abbrev pub PrimitivePart : Type 0
-PrimitivePart = (v : List ℤ) → (All (λ a. a ≡ pos 0) v → ⊥) → (d : ℕ) × (w : List ℤ) × (0 < d) × IsPrimitive w × (scaled (pos d) w ≡ v)
-
--- two primitive vectors on one line are equal or opposite
-abbrev pub PrimitiveSame : Type 0
-PrimitiveSame = (q p : ℤ) (x f : List ℤ) → q ≢ pos 0 → IsPrimitive x → IsPrimitive f → scaled q x ≡ scaled p f
-    → (x ≡ f) ⊎ (x ≡ scaled (negsuc 0) f)

@@ -8,8 +8,6 @@
 //! ones (`few_determine`).
 #![tactic(auto)]
 
-pub mod flat;
 pub mod kernel;
 pub mod kernel_size;
 pub mod places;
-pub mod primitive;

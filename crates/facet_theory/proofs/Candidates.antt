@@ -1,13 +1,12 @@
 -- The facets whose zeros are some given points: none, or a kernel's only vector or its negative, divided by the gcd of the normal.
 use Rattle.std.proofs.Common.{◌≡◌, ◌≢◌, ℕ, suc, List, [], ◌∷◌, ◌++◌, length, ℤ, pos, ◌*ℤ◌, neg_ℤ, ◌≤ℤ◌, ◌<ℤ◌, ◌⊎◌, inl, inr, sym, ap, ◌∙◌, subst, arith}
-use Rattle.lattice_theory.specs.Vector.{dot, scaled}
+use Rattle.lattice_theory.specs.Vector.{dot, scaled, IsVectorMultiple}
 use Rattle.lattice_theory.specs.Affine.{Affine, value}
 use Rattle.lattice_theory.specs.Facet.{IsFacet}
 use Rattle.elimination.specs.Elimination.{Member, Annihilates, IsKernel, ArePivots}
-use Rattle.elimination.specs.Laws.{IsVectorMultiple}
 use Rattle.lattice_theory.proofs.Integers.{products_out, linear, negative_or_not, positive_or_negative, product_nonnegative, product_nonzero, positive_nonzero, nonnegative_factor, factor_zero}
 use Rattle.lattice_theory.proofs.Members.{In, here, there, Each, empty, more, all_from_each, each_from_all, each_in, each_from_in, each_head, each_tail, each_append, in_append_left, in_append_right}
-use Rattle.elimination.proofs.Vectors.{dot-scaled_left, length-scaled}
+use Rattle.lattice_theory.proofs.Vectors.{dot-scaled_left, length-scaled}
 use Rattle.elimination.proofs.KernelLaws.{kernel_exists_lem}
 use Rattle.elimination.proofs.KernelSize.{empty_kernel_lem, single_kernel_lem, large_kernel_lem}
 use Rattle.facet_theory.specs.Solid.{AreSolid}

@@ -4,7 +4,7 @@ use Rattle.lattice_theory.specs.Vector.{entry, dot, scaled}
 use Rattle.lattice_theory.specs.Affine.{Affine, value, value_over}
 use Rattle.lattice_theory.proofs.Integers.{products_out, linear}
 use Rattle.facet_theory.proofs.Lifted.{value_at_one}
-use Rattle.elimination.proofs.Vectors.{unit, length-unit, dot-unit, dot-scaled_left, length-scaled}
+use Rattle.lattice_theory.proofs.Vectors.{unit, length-unit, dot-unit, dot-scaled_left, length-scaled}
 
 -- x_i - low, and high - x_i
 pub above_low : ℕ → ℕ → ℤ → Affine

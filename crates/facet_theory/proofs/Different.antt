@@ -6,8 +6,8 @@ use Rattle.lattice_theory.specs.Affine.{Affine, value, IsNonnegative, IsMultiple
 use Rattle.lattice_theory.specs.Facet.{IsFacet}
 use Rattle.lattice_theory.proofs.Integers.{products_out, linear, cancel_left, nonnegative_factor, *ℤ_assoc, *ℤ_comm, *ℤ-one, one-*ℤ}
 use Rattle.lattice_theory.proofs.Members.{In, all_from_each}
-use Rattle.elimination.proofs.Vectors.{dot-scaled_left, dot-scaled_right}
-use Rattle.elimination.proofs.Divisibility.{primitive_combination, primitive_nonzero, multiple_of_primitive, primitive_same}
+use Rattle.lattice_theory.proofs.Vectors.{dot-scaled_left, dot-scaled_right}
+use Rattle.lattice_theory.proofs.Divisibility.{primitive_combination, primitive_nonzero, multiple_of_primitive, primitive_same}
 use Rattle.facet_theory.specs.Laws.{FacetsDiffer}
 use Rattle.facet_theory.specs.Solid.{AreSolid}
 use Rattle.facet_theory.proofs.Values.{Nonzero, find_nonzero}

@@ -5,7 +5,7 @@ use Rattle.std.specs.List.{All}
 use Rattle.lattice_theory.specs.Affine.{Affine, value, value_over, IsMultiple}
 use Rattle.lattice_theory.specs.Facet.{IsFacet}
 use Rattle.lattice_theory.proofs.Members.{here, there, Each, empty, more, all_from_each, contains_from_in}
-use Rattle.elimination.proofs.Divisibility.{primitive_from_combination}
+use Rattle.lattice_theory.proofs.Divisibility.{primitive_from_combination}
 use Rattle.facet_theory.specs.Sums.{total_over, IsSumOfFacets}
 
 abbrev triangle : List (List ℤ)

@@ -6,8 +6,8 @@ use Rattle.lattice_theory.specs.Affine.{Affine, VanishesWith, IsMultiple}
 use Rattle.lattice_theory.specs.Facet.{IsFacet}
 use Rattle.lattice_theory.proofs.Integers.{linear, positive_nonzero, factor_zero, nonnegative_factor, *ℤ-one, *ℤ-zero, *ℤ-neg, zero-*ℤ}
 use Rattle.lattice_theory.proofs.Members.{In, here, Each, more, each_from_all}
-use Rattle.elimination.proofs.Vectors.{dot-nil, zeros, unit, length-zeros, length-unit, dot-unit, dot-zeros, dot-scaled_left, length-scaled}
-use Rattle.elimination.proofs.Divisibility.{HasPrimitivePart, primitive_part}
+use Rattle.lattice_theory.proofs.Vectors.{dot-nil, zeros, unit, length-zeros, length-unit, dot-unit, dot-zeros, dot-scaled_left, length-scaled}
+use Rattle.lattice_theory.proofs.Divisibility.{HasPrimitivePart, primitive_part}
 use Rattle.facet_theory.proofs.Values.{VanishesAlong, ZerosOf, zeros_of, dot-zero}
 use Rattle.facet_theory.proofs.Rays.{IsMultipleOf, IsRay, multiple_through}
 use Rattle.facet_theory.proofs.Lifted.{vector_of, lifted, from_lifted, nonnegative_from_above, along_from_vanishes_with, multiple_from_vectors}

@@ -2,13 +2,12 @@
 use Rattle.std.proofs.Common.{◌≡◌, ℕ, suc, ◌+◌, List, [], ◌∷◌, length, ℤ, pos, refl, sym, ap, ap₂, ◌∙◌, subst, arith}
 use Rattle.std.specs.List.{All, Contains}
 use Rattle.std.proofs.lemmas.List.Elements.{All-tail}
-use Rattle.lattice_theory.specs.Vector.{dot}
+use Rattle.lattice_theory.specs.Vector.{dot, IsVectorMultiple}
 use Rattle.lattice_theory.specs.Affine.{Affine, value, Vanishes, IsMultiple}
 use Rattle.lattice_theory.specs.Facet.{IsFacet}
 use Rattle.elimination.specs.Elimination.{Annihilates}
-use Rattle.elimination.specs.Laws.{IsVectorMultiple}
 use Rattle.lattice_theory.proofs.Members.{In, here, there, all_from_each, each_from_all, each_in, each_from_in, in_from_contains, contains_from_in}
-use Rattle.elimination.proofs.Divisibility.{primitive_nonzero}
+use Rattle.lattice_theory.proofs.Divisibility.{primitive_nonzero}
 use Rattle.facet_theory.specs.Laws.{FacetByPoints}
 use Rattle.elimination.proofs.KernelSize.{few_determine_lem}
 use Rattle.facet_theory.proofs.Values.{VanishesAlong, ZerosOf, zeros_of}

@@ -9,7 +9,7 @@ use Rattle.lattice_theory.specs.Facet.{IsFacet}
 use Rattle.lattice_theory.specs.Hull.{InHull}
 use Rattle.lattice_theory.proofs.Integers.{linear, nonnegative_factor, positive_or_not, positive_pos, product_positive, difference_from, order_from}
 use Rattle.lattice_theory.proofs.Members.{In, here, Each, more, each_from_all, each_weaker, contains_from_in}
-use Rattle.elimination.proofs.Vectors.{zeros, length-zeros, dot-zeros, dot-nil, zero_from_entries, entry_past}
+use Rattle.lattice_theory.proofs.Vectors.{zeros, length-zeros, dot-zeros, dot-nil, zero_from_entries, entry_past}
 use Rattle.facet_theory.specs.Sums.{total_over, IsSumOfFacets}
 use Rattle.facet_theory.specs.Laws.{HullByFacets, HullInBox, FacetsBound, SomePositiveConstant}
 use Rattle.facet_theory.specs.Solid.{AreSolid}

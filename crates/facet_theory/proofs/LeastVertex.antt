@@ -11,7 +11,7 @@ use Rattle.facet_theory.specs.Laws.{LeastAtVertex, FacetsOfVertices}
 use Rattle.facet_theory.specs.Solid.{AreSolid}
 use Rattle.facet_theory.proofs.Lifted.{some_point}
 use Rattle.facet_theory.proofs.Others.{in_others}
-use Rattle.facet_theory.proofs.Functions.{mixed, length-mixed, value-mixed, lowered, length-lowered, value-lowered}
+use Rattle.lattice_theory.proofs.Functions.{mixed, length-mixed, value-mixed, lowered, length-lowered, value-lowered}
 use Rattle.facet_theory.proofs.Smallest.{Spread, find_spread}
 use Rattle.facet_theory.proofs.Peak.{Peak, peak, peak_alone}
 use Rattle.facet_theory.proofs.Signs.{nonnegative_same, positive_from, nonnegative_at, nonnegative_from}

@@ -11,7 +11,6 @@ pub mod Hull
 pub mod Different
 pub mod FacetPoints
 pub mod Others
-pub mod Functions
 pub mod Peak
 pub mod LeastVertex
 pub mod VertexHull

@@ -1,12 +1,11 @@
 -- Affine functions and points as vectors: the constant stands before the normal, and 1 before the point, so that the value is the pairing.
 use Rattle.std.proofs.Common.{◌≡◌, ℕ, suc, ◌<◌, List, [], ◌∷◌, length, ℤ, pos, ◌*ℤ◌, ◌≤ℤ◌, ◌⊎◌, inl, inr, refl, sym, ap, ap₂, ◌∙◌, arith}
-use Rattle.lattice_theory.specs.Vector.{entry, dot, scaled, HaveDimension, EndsAt}
+use Rattle.lattice_theory.specs.Vector.{entry, dot, scaled, HaveDimension, EndsAt, IsVectorMultiple}
 use Rattle.lattice_theory.specs.Affine.{Affine, value, value_over, IsNonnegative, VanishesWith, IsMultiple}
 use Rattle.lattice_theory.specs.Facet.{IsFlat}
-use Rattle.elimination.specs.Laws.{IsVectorMultiple}
 use Rattle.lattice_theory.proofs.Integers.{products_out, linear}
 use Rattle.lattice_theory.proofs.Members.{In, here, there, Each, more, all_from_each, each_from_all, each_in, each_from_in, in_from_contains, contains_from_in}
-use Rattle.elimination.proofs.Vectors.{unit, length-unit, entry-unit_same, zero_or_ends, zero_from_entries}
+use Rattle.lattice_theory.proofs.Vectors.{unit, length-unit, entry-unit_same, zero_or_ends, zero_from_entries}
 use Rattle.facet_theory.specs.Solid.{AreSolid}
 use Rattle.facet_theory.proofs.Values.{dot-zero, IsAbove, VanishesAlong, IsSolid}
 use Rattle.facet_theory.proofs.Rays.{IsMultipleOf, multiple_of, vector_multiple}

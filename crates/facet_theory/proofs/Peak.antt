@@ -5,8 +5,8 @@ use Rattle.lattice_theory.specs.Vector.{entry}
 use Rattle.lattice_theory.specs.Affine.{Affine, value}
 use Rattle.lattice_theory.proofs.Integers.{products_out, linear, product_nonnegative, positive_or_not, one-*ℤ, *ℤ-zero}
 use Rattle.lattice_theory.proofs.Members.{In}
-use Rattle.elimination.proofs.Vectors.{same_from_entries, entry_past}
-use Rattle.facet_theory.proofs.Functions.{mixed, length-mixed, value-mixed, lowered, length-lowered, value-lowered, value-lowered_self}
+use Rattle.lattice_theory.proofs.Vectors.{same_from_entries, entry_past}
+use Rattle.lattice_theory.proofs.Functions.{mixed, length-mixed, value-mixed, lowered, length-lowered, value-lowered, value-lowered_self}
 use Rattle.facet_theory.proofs.Smallest.{Smallest, Spread, find_spread, smallest_of}
 use Rattle.facet_theory.proofs.Coordinates.{above_low, length-above_low, above_low-value}
 use Rattle.facet_theory.proofs.Signs.{nonnegative_same}

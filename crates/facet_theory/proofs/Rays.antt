@@ -1,11 +1,10 @@
 -- The theorem on rays: each function that is nonnegative on vectors that span is, up to a positive multiple, a sum of rays. A ray is a nonnegative function of which all functions that are 0 along it are multiples.
 use Rattle.std.proofs.Common.{◌≡◌, ◌≢◌, ℕ, zero, suc, ◌<◌, List, [], ◌∷◌, ◌++◌, length, map, ℤ, pos, ◌+ℤ◌, ◌*ℤ◌, neg_ℤ, ◌<ℤ◌, ◌⊎◌, inl, inr, sym, ap, ◌∙◌, arith}
-use Rattle.lattice_theory.specs.Vector.{dot, scaled}
+use Rattle.lattice_theory.specs.Vector.{dot, scaled, IsVectorMultiple}
 use Rattle.elimination.specs.Elimination.{Member, Annihilates, IsKernel, ArePivots}
-use Rattle.elimination.specs.Laws.{IsVectorMultiple}
 use Rattle.lattice_theory.proofs.Integers.{products_out, linear, neg-*ℤ, product_nonnegative, product_positive, product_nonzero, positive_nonzero, factor_zero, *ℤ_assoc, zero_terms}
 use Rattle.lattice_theory.proofs.Members.{In, here, there, Each, all_from_each, each_from_all, each_in, each_from_in, each_head, each_tail, in_append_cases}
-use Rattle.elimination.proofs.Vectors.{combined, dot-combined_left, length-combined, dot-scaled_left, length-scaled, same_from_pairings}
+use Rattle.lattice_theory.proofs.Vectors.{combined, dot-combined_left, length-combined, dot-scaled_left, length-scaled, same_from_pairings}
 use Rattle.elimination.proofs.KernelLaws.{kernel_exists_lem}
 use Rattle.elimination.proofs.KernelSize.{empty_kernel_lem, single_kernel_lem, large_kernel_lem}
 use Rattle.facet_theory.proofs.Values.{IsAbove, VanishesAlong, IsSolid, nonzeros, Nonzero, find_nonzero, ZerosOf, zeros_of, dot-zero}

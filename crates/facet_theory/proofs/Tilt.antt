@@ -3,7 +3,7 @@ use Rattle.std.proofs.Common.{◌≡◌, ◌≢◌, ℕ, ◌<◌, List, [], ◌�
 use Rattle.lattice_theory.specs.Vector.{dot, scaled}
 use Rattle.lattice_theory.proofs.Integers.{products_out, linear, positive_or_not, negative_or_not, product_nonnegative, product_positive, nonnegative_factor, positive_nonzero, zero_terms}
 use Rattle.lattice_theory.proofs.Members.{In, here, there}
-use Rattle.elimination.proofs.Vectors.{combined, dot-combined_left, length-combined, dot-scaled_left, length-scaled}
+use Rattle.lattice_theory.proofs.Vectors.{combined, dot-combined_left, length-combined, dot-scaled_left, length-scaled}
 use Rattle.facet_theory.proofs.Values.{IsAbove, VanishesAlong, nonzeros, nonzeros_lt}
 use Rattle.facet_theory.proofs.Signs.{nonnegative_same, positive_from, positive_sum, cancelled}
 

@@ -9,7 +9,7 @@ use Rattle.lattice_theory.proofs.Sizes.{fewer_size}
 use Rattle.facet_theory.specs.Solid.{AreSolid}
 use Rattle.facet_theory.specs.Laws.{VerticesAreSolid, SomeVertex, VerticesAreSmall, HullOfVertices, LatticePointsOfVertices, DilatePointsOfVertices}
 use Rattle.facet_theory.proofs.Lifted.{some_point}
-use Rattle.facet_theory.proofs.Functions.{mixed, length-mixed, value-mixed}
+use Rattle.lattice_theory.proofs.Functions.{mixed, length-mixed, value-mixed}
 use Rattle.facet_theory.proofs.Signs.{nonnegative_same, nonnegative_at, nonnegative_from}
 use Rattle.facet_theory.proofs.LeastVertex.{least_at_vertex_lem, vertex_inside, nonnegative_from_vertices, facets_of_vertices_lem}
 

@@ -6,14 +6,14 @@ use Rattle.lattice_theory.specs.Hull.{IsVertex}
 use Rattle.lattice_theory.specs.Facet.{IsFacet}
 use Rattle.lattice_theory.proofs.Integers.{linear, negative_or_not, zero_or_not, positive_pos, positive_nonzero, factor_zero, one-*ℤ, *ℤ-zero}
 use Rattle.lattice_theory.proofs.Members.{In, here, there, Each, more, each_from_all, in_from_contains, contains_from_in, each_weaker}
-use Rattle.elimination.proofs.Vectors.{zeros, length-zeros, dot-zeros}
+use Rattle.lattice_theory.proofs.Vectors.{zeros, length-zeros, dot-zeros}
 use Rattle.facet_theory.specs.Sums.{total_over, IsSumOfFacets}
 use Rattle.facet_theory.specs.Laws.{VerticesByFacets}
 use Rattle.facet_theory.specs.Solid.{AreSolid}
 use Rattle.facet_theory.proofs.Lifted.{value_at_one}
 use Rattle.facet_theory.proofs.Generate.{facets_generate_lem}
 use Rattle.facet_theory.proofs.Others.{same_or_not, to_others}
-use Rattle.facet_theory.proofs.Functions.{mixed, length-mixed, value-mixed, lowered, length-lowered, value-lowered, value-lowered_self}
+use Rattle.lattice_theory.proofs.Functions.{mixed, length-mixed, value-mixed, lowered, length-lowered, value-lowered, value-lowered_self}
 use Rattle.facet_theory.proofs.LeastVertex.{vertex_from_function}
 use Rattle.facet_theory.proofs.Listed.{AllFacets, all_facets}
 use Rattle.facet_theory.proofs.Signs.{nonnegative_same, positive_from, nonnegative_sum, zero_sum, terms_zero, nonnegative_at, nonnegative_from}

@@ -2,17 +2,16 @@
 use Rattle.std.specs.Prelude.{nat_abs}
 use Rattle.std.proofs.Common.{◌≡◌, ◌≢◌, ◌⊎◌, ℕ, zero, suc, ◌^◌, ◌<◌, ◌≤◌, List, [], ◌∷◌, length, get_or, map, ℤ, pos, negsuc, neg_ℤ, ◌+ℤ◌, ◌*ℤ◌, ◌<ℤ◌, inl, inr, ⊎_elim, refl, sym, ap, ap₂, ◌∙◌, subst, All, Contains, arith}
 use Rattle.std.proofs.lemmas.List.Elements.{All-contains, All-weaker}
-use Rattle.lattice_theory.specs.Vector.{entry, dot, scaled, IsPrimitive, HaveDimension}
+use Rattle.lattice_theory.specs.Vector.{entry, dot, scaled, IsPrimitive, HaveDimension, IsVectorMultiple}
 use Rattle.lattice_theory.specs.Affine.{Affine, value, Vanishes, IsMultiple}
 use Rattle.lattice_theory.specs.Facet.{IsFlat, IsFlatFunction}
 use Rattle.lattice_theory.proofs.Integers.{products_out, linear, zero_or_not, positive_or_negative, positive_nonzero, product_nonzero, *ℤ_comm, minus_one-*ℤ, zero-*ℤ}
 use Rattle.elimination.specs.Elimination.{Member, Annihilates}
-use Rattle.elimination.specs.Laws.{IsVectorMultiple}
 use Rattle.elimination.proofs.KernelSize.{empty_kernel_lem, single_kernel_lem, large_kernel_lem}
 use Rattle.elimination.proofs.KernelPlaces.{kernel_earliest_lem}
 use Rattle.lattice_theory.proofs.Members.{each_from_all, all_from_each}
-use Rattle.elimination.proofs.Vectors.{length-scaled, entry-scaled, scaled-scaled, dot-scaled_left, dot-scaled_right, entries_from_zero, same_from_entries, zero_from_entries}
-use Rattle.elimination.proofs.Divisibility.{primitive_combination, primitive_from_combination, primitive_nonzero}
+use Rattle.lattice_theory.proofs.Vectors.{length-scaled, entry-scaled, scaled-scaled, dot-scaled_left, dot-scaled_right, entries_from_zero, same_from_entries, zero_from_entries}
+use Rattle.lattice_theory.proofs.Divisibility.{primitive_combination, primitive_from_combination, primitive_nonzero}
 use Rattle.normal_bounds.specs.Bounds.{IsFixedBy}
 use Rattle.hull.specs.Hyperplanes.{StartsPositive, HasTwoFunctions}
 use Rattle.hull.specs.Differences.{differences}

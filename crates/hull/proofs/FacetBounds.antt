@@ -10,8 +10,8 @@ use Rattle.lattice_theory.specs.Size.{size, absolute_sum}
 use Rattle.lattice_theory.specs.Facet.{IsFlat, IsFacet, AreFacets}
 use Rattle.lattice_theory.proofs.Integers.{products_out, linear}
 use Rattle.lattice_theory.proofs.Members.{empty, all_from_each}
-use Rattle.elimination.proofs.Divisibility.{primitive_nonzero}
-use Rattle.elimination.proofs.Vectors.{nonzero_entry}
+use Rattle.lattice_theory.proofs.Divisibility.{primitive_nonzero}
+use Rattle.lattice_theory.proofs.Vectors.{nonzero_entry}
 use Rattle.facet_theory.specs.Solid.{AreSolid}
 use Rattle.facet_theory.proofs.FacetPoints.{facet_by_points_lem}
 use Rattle.normal_bounds.specs.Bounds.{IsFixedBy}

@@ -2,16 +2,15 @@
 use Rattle.std.proofs.Common.{◌≡◌, ◌≢◌, ◌⊎◌, ℕ, ◌+◌, ◌<◌, ◌≤◌, List, [], ◌∷◌, ◌++◌, length, get_or, drop, ℤ, pos, negsuc, neg_ℤ, ◌+ℤ◌, ◌*ℤ◌, inl, inr, ⊎_elim, refl, sym, ap, ◌∙◌, subst, All, Contains, arith}
 use Rattle.std.proofs.lemmas.List.{drop_more, drop_all}
 use Rattle.std.proofs.lemmas.List.Elements.{All-contains, All-weaker, All-contains_itself, All-push}
-use Rattle.elimination.proofs.Vectors.{length-scaled}
-use Rattle.lattice_theory.specs.Vector.{dot, scaled, HaveDimension}
+use Rattle.lattice_theory.proofs.Vectors.{length-scaled}
+use Rattle.lattice_theory.specs.Vector.{dot, scaled, HaveDimension, IsVectorMultiple}
 use Rattle.lattice_theory.specs.Affine.{Affine, value, IsNonnegative, VanishesWith, IsMultiple}
 use Rattle.lattice_theory.specs.Facet.{IsFacet}
 use Rattle.lattice_theory.proofs.Integers.{products_out, linear, zero_or_not, factor_zero}
 use Rattle.elimination.specs.Elimination.{Member, Annihilates, IsKernel, IsCombination, pairings}
-use Rattle.elimination.specs.Laws.{IsVectorMultiple}
 use Rattle.elimination.proofs.KernelSize.{single_kernel_lem, large_kernel_lem, multiplier_nonzero}
 use Rattle.lattice_theory.proofs.Members.{Each, more, In, here, there, each_from_all, in_from_contains, contains_from_in, in_append_left, in_append_right, in_append_cases}
-use Rattle.elimination.proofs.Divisibility.{primitive_same}
+use Rattle.lattice_theory.proofs.Divisibility.{primitive_same}
 use Rattle.hull.specs.Differences.{difference}
 use Rattle.std.specs.Prelude.{nat_abs, ◌*◌, ◌^◌}
 use Rattle.lattice_theory.specs.Size.{absolute_sum}

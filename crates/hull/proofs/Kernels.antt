@@ -7,11 +7,11 @@ use Rattle.std.proofs.lemmas.List.{map-append}
 use Rattle.lattice_theory.specs.Vector.{entry, dot, IsPrimitive}
 use Rattle.lattice_theory.specs.Size.{absolute_sum}
 use Rattle.lattice_theory.specs.Order.{Ascends}
-use Rattle.elimination.specs.Elimination.{Member, IsUnit, IsReduced, AreApart}
+use Rattle.elimination.specs.Elimination.{Member, IsUnitMember, IsReduced, AreApart}
 use Rattle.elimination.proofs.KernelLaws.{kernel_starts_lem, kernel_stays_lem, kernel_steps_lem}
 use Rattle.lattice_theory.proofs.Members.{Each, empty, more, here, there, each_from_all, all_from_each, each_left, each_right, each_append, each_tail, in_from_contains, contains_from_in, in_append_right}
-use Rattle.elimination.proofs.Divisibility.{primitive_from_combination}
-use Rattle.elimination.proofs.Vectors.{unit, dot-unit}
+use Rattle.lattice_theory.proofs.Divisibility.{primitive_from_combination}
+use Rattle.lattice_theory.proofs.Vectors.{unit, dot-unit}
 use Rattle.normal_bounds.proofs.Products.{members_fit_lem, step_products_fit_lem}
 use Rattle.lattice_core.specs.Limits.{size_limit_of}
 use Rattle.hull.specs.Kernels.{IsPrimitiveKernel, IsSmallKernel, CanReduce, IsReducedBy, IsStepped}
@@ -147,8 +147,8 @@ kernel_stayed n vs ks v h z =
     record { kernel = law.0; pivots = h.pivots; are_pivots = law.1; primitive = h.primitive; ascends = h.ascends }
 
 -- a unit vector is primitive
-unit_primitive : (n i : ℕ) (k : Member) → i < n → IsUnit n i k → IsPrimitive k.vector
-unit_primitive n i k h u = primitive_from_combination (unit n i) k.vector (dot-unit n i k.vector h ∙ u.one)
+unit_primitive : (n i : ℕ) (k : Member) → i < n → IsUnitMember n i k → IsPrimitive k.vector
+unit_primitive n i k h u = primitive_from_combination (unit n i) k.vector (dot-unit n i k.vector h ∙ u.unit.one)
 
 -- the own places of unit vectors ascend
 owns_from : (start : ℕ) (ks : List Member) → ((i : ℕ) (d : Member) → i < length ks → (get_or ks i d).own ≡ start + i) → Ascends (λ x y. x ≤ y) (map (λ k. k.own) ks)
@@ -169,7 +169,7 @@ owns_from start (k ∷ ks) h = (all_from_each (later ks (λ i d l. start_next st
     later (l ∷ ls) g = more (let a = g 0 l (omega arith) in let b = first in omega arith) (later ls (λ i d m. g (suc i) d (omega arith)))
 
 -- the unit vectors are the kernel of no vectors
-pub kernel_started : (n : ℕ) (ks : List Member) → length ks ≡ n → ((i : ℕ) (d : Member) → i < n → IsUnit n i (get_or ks i d)) → IsPrimitiveKernel n [] ks
+pub kernel_started : (n : ℕ) (ks : List Member) → length ks ≡ n → ((i : ℕ) (d : Member) → i < n → IsUnitMember n i (get_or ks i d)) → IsPrimitiveKernel n [] ks
 kernel_started n ks e units =
     let law = kernel_starts_lem n ks e (λ i d h. units i d h) in
     record {

@@ -4,7 +4,7 @@ use Rattle.lattice_theory.specs.Vector.{entry, IsPrimitive}
 use Rattle.lattice_theory.proofs.Integers.{products_out, linear, product_positive, positive_pos, positive_nonzero, positive_factor, neg_nonzero, *ℤ-zero}
 use Rattle.facet_theory.proofs.Signs.{positive_from}
 use Rattle.elimination.specs.Elimination.{Member}
-use Rattle.elimination.proofs.Vectors.{length-scaled, entry-scaled, entries_from_zero}
+use Rattle.lattice_theory.proofs.Vectors.{length-scaled, entry-scaled, entries_from_zero}
 use Rattle.lattice_core.specs.Divisors.{IsPrimitivePart}
 use Rattle.hull.specs.Kernels.{CanReduce, IsReducedBy, AreMultiplesApart}
 

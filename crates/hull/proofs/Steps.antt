@@ -6,7 +6,7 @@ use Rattle.std.proofs.lemmas.List.{length_push}
 use Rattle.std.proofs.lemmas.List.Elements.{All-push}
 use Rattle.lattice_theory.specs.Vector.{entry}
 use Rattle.lattice_theory.proofs.Integers.{products_out, linear}
-use Rattle.elimination.proofs.Vectors.{entry_past, entry_before, entry_last}
+use Rattle.lattice_theory.proofs.Vectors.{entry_past, entry_before, entry_last}
 use Rattle.lattice_theory.proofs.Members.{all_from_each, empty}
 use Rattle.hull.specs.Kernels.{AreMultiplesApart}
 

@@ -4,22 +4,19 @@ use Rattle.std.specs.Prelude.{nat_abs, get_or, ◌-◌}
 use Rattle.std.specs.Int.{w64}
 use Rattle.std.proofs.lemmas.Int.{ints, fits_signed_from_abs}
 use Rattle.std.proofs.lemmas.List.{take_all, get_or_default}
-use Rattle.std.proofs.lemmas.List.Elements.{All-weaker}
-use Rattle.normal_bounds.proofs.Sizes.{point_absolute_sum_lem}
+use Rattle.std.proofs.lemmas.List.Elements.{All-weaker, All-head, All-tail}
+use Rattle.normal_bounds.proofs.Sizes.{point_absolute_sum_lem, difference_absolute_sum_lem}
 use Rattle.lattice_core.specs.Limits.{size_limit_of, IsSized}
 use Rattle.hull.specs.Kernels.{IsPrimitiveKernel, IsSmallKernel}
 use Rattle.lattice_core.proofs.SizeLimits.{limit_bound}
 use Rattle.hull.proofs.Pivots.{take_more}
-use Rattle.std.proofs.lemmas.List.Elements.{All-head, All-tail}
-use Rattle.lattice_theory.specs.Vector.{entry, dot, HaveDimension}
+use Rattle.lattice_theory.specs.Vector.{entry, dot, HaveDimension, IsVectorMultiple}
 use Rattle.lattice_theory.specs.Affine.{Affine, value, Vanishes, IsMultiple}
 use Rattle.lattice_theory.specs.Size.{size, absolute_sum}
 use Rattle.lattice_theory.proofs.Integers.{products_out, linear}
 use Rattle.elimination.specs.Elimination.{Member, Annihilates}
-use Rattle.elimination.specs.Laws.{IsVectorMultiple}
 use Rattle.lattice_theory.proofs.Members.{Each, empty, more, each_from_all, all_from_each}
-use Rattle.elimination.proofs.Vectors.{dot-scaled_left}
-use Rattle.normal_bounds.proofs.Sizes.{difference_absolute_sum_lem}
+use Rattle.lattice_theory.proofs.Vectors.{dot-scaled_left}
 use Rattle.hull.specs.Differences.{difference, differences}
 
 -- a difference is as long as the vectors

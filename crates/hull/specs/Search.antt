@@ -1,11 +1,10 @@
 -- What the search for facets adds to a list. This project's own.
 use Rattle.std.specs.Prelude.{◌≡◌, ◌⊎◌, ◌↔◌, ℕ, List, length, drop, ℤ, pos}
 use Rattle.std.specs.List.{Contains}
-use Rattle.lattice_theory.specs.Vector.{dot}
+use Rattle.lattice_theory.specs.Vector.{dot, IsVectorMultiple}
 use Rattle.lattice_theory.specs.Affine.{Affine, value, IsNonnegative}
 use Rattle.lattice_theory.specs.Facet.{IsFacet}
 use Rattle.elimination.specs.Elimination.{Member, IsCombination}
-use Rattle.elimination.specs.Laws.{IsVectorMultiple}
 use Rattle.hull.specs.Differences.{difference}
 use Rattle.hull.specs.Kernels.{IsPrimitiveKernel}
 

@@ -4,7 +4,7 @@ ghost use Rattle.std.specs.Prelude.{◌≡◌, ◌≢◌, ◌⊎◌, ℕ, ◌+�
 ghost use Rattle.std.specs.List.{All};
 ghost use Rattle.lattice_theory.specs.Vector.{dot, IsPrimitive};
 ghost use Rattle.lattice_theory.specs.Size.{absolute_sum};
-ghost use Rattle.elimination.specs.Elimination.{Member, IsUnit};
+ghost use Rattle.elimination.specs.Elimination.{Member, IsUnitMember};
 ghost use Rattle.lattice_core.specs.Limits.{size_limit_of};
 ghost use Rattle.hull.specs.Kernels.{IsPrimitiveKernel, IsSmallKernel, IsPivotAt, IsStepped};
 
@@ -16,7 +16,7 @@ use arrayvec::ArrayVec;
 fn unit_member(n: usize, i: usize) -> KernelMember
     requires within { i < n }
     requires most { n ≤ 6 }
-    ensures { IsUnit n i result }
+    ensures { IsUnitMember n i result }
 {
     let mut vector = ArrayVec::new();
     for j in 0..n {

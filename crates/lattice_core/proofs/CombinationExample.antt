@@ -5,7 +5,7 @@ use Rattle.std.proofs.lemmas.Int.{ints}
 use Rattle.lattice_theory.specs.Vector.{entry, dot}
 use Rattle.lattice_theory.specs.Affine.{Affine, value, IsMultiple}
 use Rattle.lattice_theory.proofs.Integers.{linear}
-use Rattle.elimination.proofs.Divisibility.{primitive_from_combination}
+use Rattle.lattice_theory.proofs.Divisibility.{primitive_from_combination}
 use Rattle.lattice_core.specs.Combine.{HasFixedCombination}
 
 abbrev first : Affine

@@ -8,8 +8,8 @@ use Rattle.lattice_theory.specs.Vector.{entry, dot, scaled, IsPrimitive}
 use Rattle.lattice_theory.specs.Affine.{Affine, value}
 use Rattle.lattice_theory.specs.Size.{absolute_sum, size}
 use Rattle.lattice_theory.proofs.Integers.{products_out, *ℤ-zero, minus_one-*ℤ, linear, positive_nonzero, positive_pos, product_positive, factor_zero, *ℤ_assoc}
-use Rattle.elimination.proofs.Vectors.{combined, dot_comm, dot-scaled_left, dot-combined_left, entry-scaled, entry-combined, length-scaled, length-combined, same_from_entries, zero_from_entries, entries_from_zero}
-use Rattle.elimination.proofs.Divisibility.{primitive_nonzero, primitive_same}
+use Rattle.lattice_theory.proofs.Vectors.{combined, dot_comm, dot-scaled_left, dot-combined_left, entry-scaled, entry-combined, length-scaled, length-combined, same_from_entries, zero_from_entries, entries_from_zero}
+use Rattle.lattice_theory.proofs.Divisibility.{primitive_nonzero, primitive_same}
 use Rattle.lattice_theory.proofs.Members.{Each, empty, more, each_from_all}
 use Rattle.normal_bounds.specs.Bounds.{EntriesWithin}
 use Rattle.normal_bounds.proofs.Sizes.{all_within, point_absolute_sum_lem}

@@ -8,5 +8,9 @@ pub mod LexPlaces
 pub mod LexWalks
 pub mod BoxSteps
 pub mod Sizes
-pub mod Divisors
+pub mod Vectors
+pub mod Divisibility
+pub mod PrimitiveLaws
+pub mod Functions
+pub mod FlatUnique
 pub mod ExampleSteps

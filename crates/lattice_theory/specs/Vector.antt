@@ -1,5 +1,5 @@
 -- Integer vectors, the points of the lattice Z^n (math/0204356, section 2). A vector is the list of its entries; an entry that is missing reads as 0.
--- `IsPrimitive`, `EndsAt` and the tests of sameness are this project's own.
+-- `IsPrimitive`, `IsUnitVector`, `IsVectorMultiple`, `EndsAt` and the tests of sameness are this project's own.
 use Rattle.std.specs.Prelude.{◌≡◌, ◌≢◌, ℕ, ◌<◌, Bool, false, true, not, ◌&&◌, ◌==◌, List, [], ◌∷◌, length, map, ℤ, pos, negsuc, ◌+ℤ◌, ◌*ℤ◌, slice_index_or}
 use Rattle.std.specs.List.{All, filter}
 
@@ -16,6 +16,19 @@ dot (a ∷ x) (b ∷ y) = a *ℤ b +ℤ dot x y
 -- an integer times a vector
 abbrev pub scaled : ℤ → List ℤ → List ℤ
 scaled k x = map (λ a. k *ℤ a) x
+
+-- x is the i-th unit vector of n entries: 1 at the place i, and 0 elsewhere
+pub record IsUnitVector (n i : ℕ) (x : List ℤ) : Type 0 where
+  pub dimension : length x ≡ n
+  pub one : entry x i ≡ pos 1
+  pub zeros : (j : ℕ) → j ≢ i → entry x j ≡ pos 0
+
+-- the vector g is a rational multiple of f: q g = p f with integers p and q, and q isn't 0.
+pub record IsVectorMultiple (g f : List ℤ) : Type 0 where
+  pub left : ℤ
+  pub right : ℤ
+  pub nonzero : left ≢ pos 0
+  pub same : scaled left g ≡ scaled right f
 
 -- d divides a: some integer times d is a
 abbrev pub DividesInteger : ℕ → ℤ → Type 0

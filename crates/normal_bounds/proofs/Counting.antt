@@ -8,7 +8,7 @@ use Rattle.elimination.specs.Elimination.{Annihilates}
 use Rattle.normal_bounds.specs.Bounds.{EntriesWithin}
 use Rattle.normal_bounds.specs.Laws.{CountingBound}
 use Rattle.lattice_theory.proofs.Members.{Each, empty, more, each_head, each_tail, each_from_all, all_from_each}
-use Rattle.elimination.proofs.Vectors.{combined, length-combined, entry-combined, dot-combined_left, dot_comm, same_from_entries, entries_from_zero}
+use Rattle.lattice_theory.proofs.Vectors.{combined, length-combined, entry-combined, dot-combined_left, dot_comm, same_from_entries, entries_from_zero}
 use Rattle.normal_bounds.proofs.Boxes.{Different, one_more, Inside, nothing, free, fixed, free_places, box, length-box, box_inside, box_different}
 use Rattle.normal_bounds.proofs.Pigeons.{Among, each_among, different_among, among_itself, among_among, Crowd, crowd}
 use Rattle.normal_bounds.proofs.Ranges.{range_low, dots_one_of, fewer_values}

@@ -7,7 +7,7 @@ use Rattle.lattice_theory.specs.Affine.{Affine, value, IsMultiple}
 use Rattle.lattice_theory.specs.Size.{absolute_sum}
 use Rattle.normal_bounds.specs.Bounds.{EntriesWithin, IsFixedBy}
 use Rattle.lattice_theory.proofs.Integers.{linear}
-use Rattle.elimination.proofs.Divisibility.{primitive_from_combination}
+use Rattle.lattice_theory.proofs.Divisibility.{primitive_from_combination}
 use Rattle.normal_bounds.proofs.Normals.{normal_bound_lem}
 
 -- the points

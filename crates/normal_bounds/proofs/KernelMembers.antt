@@ -2,10 +2,9 @@
 use Rattle.std.proofs.Common.{◌≡◌, ℕ, zero, suc, ◌+◌, ◌^◌, ◌<◌, ◌≤◌, List, [], ◌∷◌, ◌++◌, length, Bool, true, false, ℤ, pos, nat_abs, refl, sym, ap, ◌∙◌, subst, All, arith}
 use Rattle.std.proofs.lemmas.List.{length-append}
 use Rattle.std.proofs.Math.Nat.{mul-le-mul_left, pow-suc}
-use Rattle.lattice_theory.specs.Vector.{entry, dot, IsPrimitive}
+use Rattle.lattice_theory.specs.Vector.{entry, dot, IsPrimitive, IsVectorMultiple}
 use Rattle.lattice_theory.specs.Size.{absolute_sum}
 use Rattle.elimination.specs.Elimination.{Member, IsKernel, ArePivots}
-use Rattle.elimination.specs.Laws.{IsVectorMultiple}
 use Rattle.normal_bounds.specs.Bounds.{EntriesWithin}
 use Rattle.normal_bounds.specs.Laws.{MemberBound}
 use Rattle.lattice_theory.proofs.Members.{Each, empty, more, In, here, there, each_weaker, each_from_all, all_from_each, in_from_contains}

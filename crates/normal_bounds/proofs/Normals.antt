@@ -11,8 +11,8 @@ use Rattle.normal_bounds.specs.Bounds.{EntriesWithin, IsFixedBy}
 use Rattle.normal_bounds.specs.Laws.{NormalBound}
 use Rattle.lattice_theory.proofs.Integers.{linear, zero-*ℤ}
 use Rattle.lattice_theory.proofs.Members.{Each, empty, more, each_head, each_tail, each_from_all, all_from_each}
-use Rattle.elimination.proofs.Vectors.{combined, entry-combined, entry-scaled, dot-combined_right, zero_from_entries}
-use Rattle.elimination.proofs.Divisibility.{multiple_of_primitive}
+use Rattle.lattice_theory.proofs.Vectors.{combined, entry-combined, entry-scaled, dot-combined_right, zero_from_entries}
+use Rattle.lattice_theory.proofs.Divisibility.{multiple_of_primitive}
 use Rattle.normal_bounds.proofs.Counting.{counting_bound_lem}
 use Rattle.normal_bounds.proofs.Sizes.{abs_product, pairing_bound_lem, difference_absolute_sum_lem}
 

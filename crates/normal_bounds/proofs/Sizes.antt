@@ -8,7 +8,7 @@ use Rattle.lattice_theory.specs.Vector.{entry, dot}
 use Rattle.lattice_theory.specs.Size.{size, absolute_sum}
 use Rattle.normal_bounds.specs.Bounds.{EntriesWithin}
 use Rattle.normal_bounds.specs.Laws.{PairingBound, PointAbsoluteSum, DifferenceAbsoluteSum}
-use Rattle.elimination.proofs.Vectors.{entry_past}
+use Rattle.lattice_theory.proofs.Vectors.{entry_past}
 use Rattle.lattice_theory.proofs.Members.{In, each_from_all, all_from_each, each_from_in, each_in}
 use Rattle.lattice_theory.proofs.Sizes.{within_reach}
 

@@ -7,7 +7,7 @@ use Rattle.lattice_theory.specs.Order.{LexLess, FunctionLess}
 use Rattle.lattice_theory.specs.Facet.{IsFlat, IsFlatFunction}
 use Rattle.lattice_theory.proofs.Orders.{lex_asymmetric, function_asymmetric}
 use Rattle.lattice_theory.proofs.Unique.{lists_unique}
-use Rattle.elimination.proofs.FlatUnique.{flat_function_unique}
+use Rattle.lattice_theory.proofs.FlatUnique.{flat_function_unique}
 use Rattle.lattice_core.specs.declared.faults.Refusal.TheVariants.{Flat, Limit}
 use Rattle.lattice_core.specs.declared.faults.LimitName.TheVariants.{Size, Facets, Vertices, Points}
 use Rattle.hull.specs.Faults.{HasManyFacets, HasManyVertices}

@@ -14,7 +14,7 @@ use Rattle.lattice_theory.proofs.Members.{In, here, there, each_from_all, all_fr
 use Rattle.lattice_theory.proofs.Sizes.{within_reach}
 use Rattle.lattice_core.proofs.Dimension.{dimension_is}
 use Rattle.facet_theory.specs.Solid.{AreSolid}
-use Rattle.facet_theory.proofs.Functions.{mixed, length-mixed, value-mixed}
+use Rattle.lattice_theory.proofs.Functions.{mixed, length-mixed, value-mixed}
 use Rattle.facet_theory.proofs.Hull.{hull_by_facets_lem}
 use Rattle.facet_theory.proofs.Lifted.{value_at_one}
 use Rattle.facet_theory.proofs.LeastVertex.{least_at_vertex_lem, nonnegative_from_vertices, facets_of_vertices_lem}

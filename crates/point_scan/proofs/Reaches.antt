@@ -10,7 +10,7 @@ use Rattle.lattice_theory.specs.Vector.{entry}
 use Rattle.lattice_theory.specs.Size.{reach, size}
 use Rattle.lattice_theory.proofs.Members.{in_from_contains}
 use Rattle.point_scan.specs.ScanSteps.{IsDilateSpan}
-use Rattle.elimination.proofs.Vectors.{entry_before, entry_last}
+use Rattle.lattice_theory.proofs.Vectors.{entry_before, entry_last}
 use Rattle.lattice_theory.proofs.Sizes.{within_reach}
 
 -- each coordinate of a point is within the reach of that coordinate

@@ -4,7 +4,7 @@ use Rattle.std.proofs.lemmas.Int.{ints}
 use Rattle.lattice_theory.specs.Vector.{entry, dot, DividesInteger}
 use Rattle.lattice_theory.proofs.Integers.{products_out, linear, *ℤ_comm, cancel_left, positive_nonzero, positive_pos, same_natural}
 use Rattle.lattice_theory.proofs.Members.{empty, more, each_from_all, all_from_each, each_head, each_tail, each_weaker}
-use Rattle.elimination.proofs.Divisibility.{gcd_exists, divides_zero, divides_sum, divides_multiple, divides_itself, zero_divides, divides_through}
+use Rattle.lattice_theory.proofs.Divisibility.{gcd_exists, divides_zero, divides_sum, divides_multiple, divides_itself, zero_divides, divides_through}
 use Rattle.weight_frame.specs.Frame.{IsGreatestDivisor, AreLeastMultipliers}
 
 -- divisors of each other are the same

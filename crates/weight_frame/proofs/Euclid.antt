@@ -9,7 +9,7 @@ use Rattle.std.proofs.Math.Nat.{mul-div_cancel', div-mul_cancel, le_of_mul-le-mu
 use Rattle.lattice_theory.specs.Vector.{DividesInteger}
 use Rattle.lattice_theory.proofs.Integers.{products_out, linear, *ℤ_comm, minus_one-*ℤ, zero-*ℤ}
 use Rattle.lattice_core.proofs.CommonDivisors.{exact_quotient}
-use Rattle.elimination.proofs.Divisibility.{divides_sum, divides_multiple}
+use Rattle.lattice_theory.proofs.Divisibility.{divides_sum, divides_multiple}
 use Rattle.weight_frame.specs.Frame.{AreLeastMultipliers, IsGreatestDivisor}
 use Rattle.weight_frame.specs.Euclid.{IsCongruent, IsBezout}
 use Rattle.weight_frame.proofs.Bounds.{product_bound}

@@ -4,14 +4,13 @@ use Rattle.std.specs.Int.RustNames.{int_div}
 use Rattle.std.proofs.lemmas.Bool.{cases_eq, cases_lt, cases_order}
 use Rattle.std.proofs.lemmas.Int.{ints, unsigned_abs-mul, fits_signed_from_abs}
 use Rattle.std.proofs.lemmas.List.{drop_more, drop_all, take_more, take_all, length_push, get_or-set_same, get_or-set_other}
-use Rattle.std.specs.Int.{w128}
+use Rattle.std.specs.Int.{w128, ◌∣◌}
 use native.Mathlib.Nat.{dvd-mul_left}
-use Rattle.std.specs.Int.{◌∣◌}
 use Rattle.lattice_theory.specs.Vector.{entry, dot}
 use Rattle.lattice_theory.proofs.Integers.{products_out, linear, cancel_left, positive_nonzero, positive_pos, *ℤ_comm, first_terms}
 use Rattle.lattice_core.proofs.CommonDivisors.{exact_quotient}
 use Rattle.lattice_theory.proofs.Members.{more, each_from_all}
-use Rattle.elimination.proofs.Vectors.{entry_past, zero_from_entries, entries_from_zero}
+use Rattle.lattice_theory.proofs.Vectors.{entry_past, zero_from_entries, entries_from_zero}
 use Rattle.weight_frame.specs.Frame.{IsIntegerCombination, AreCoordinates, largest, coordinate_limit, entry_limit, AreWithinEntryLimit}
 use Rattle.weight_frame.specs.Echelon.{LeadsAt, Leads, no_more, leads}
 use Rattle.weight_frame.specs.Places.{IsFirstPlace, IsNextCoordinate, AreFound, IsLargeSomewhere}

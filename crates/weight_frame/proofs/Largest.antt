@@ -1,11 +1,11 @@
 -- The largest absolute value of the entries of a vector.
 use Rattle.std.proofs.Common.{◌≡◌, ℕ, zero, suc, ◌+◌, ◌<◌, ◌≤◌, max, List, [], ◌∷◌, ◌++◌, length, take, drop, ℤ, pos, nat_abs, negsuc, ◌-ℤ◌, ◌*ℤ◌, SFits, w64, refl, sym, ap, ap₂, ◌∙◌, arith, ◌≢◌, ⊎_elim, All}
 use Rattle.std.proofs.lemmas.Bool.{cases_eq, cases_lt}
-use Rattle.elimination.proofs.Vectors.{entry_past}
+use Rattle.lattice_theory.proofs.Vectors.{entry_past}
 use Rattle.std.proofs.lemmas.Int.{ints, fits_signed_from_abs}
 use Rattle.std.proofs.lemmas.List.{drop_more, drop_all, take_more, map-append}
-use Rattle.lattice_theory.specs.Vector.{entry, scaled}
-use Rattle.weight_frame.specs.Frame.{IsZeroVector, IsUnitVector, largest, entry_limit}
+use Rattle.lattice_theory.specs.Vector.{entry, scaled, IsUnitVector}
+use Rattle.weight_frame.specs.Frame.{IsZeroVector, largest, entry_limit}
 
 -- it is reached or passed by no entry
 pub entry_at_most : (x : List ℤ) (i : ℕ) → nat_abs (entry x i) ≤ largest x

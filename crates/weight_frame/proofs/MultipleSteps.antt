@@ -5,7 +5,7 @@ use Rattle.std.proofs.lemmas.List.{get_or_append_left, get_or_push, length_push}
 use Rattle.std.proofs.lemmas.List.Elements.{All-push}
 use Rattle.lattice_theory.specs.Vector.{entry}
 use Rattle.lattice_theory.proofs.Integers.{products_out}
-use Rattle.elimination.proofs.Vectors.{entry_past}
+use Rattle.lattice_theory.proofs.Vectors.{entry_past}
 use Rattle.lattice_theory.proofs.Members.{all_from_each, empty}
 use Rattle.weight_frame.specs.Frame.{IsSumOfMultiples}
 

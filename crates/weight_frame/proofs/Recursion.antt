@@ -3,8 +3,8 @@ use Rattle.std.proofs.Common.{◌≡◌, ℕ, zero, suc, ◌*◌, ◌<◌, List,
 use Rattle.lattice_theory.specs.Vector.{dot, DividesInteger}
 use Rattle.lattice_core.specs.Weights.{Weighted, weighted_degree}
 use Rattle.lattice_theory.proofs.Members.{Each, empty, each_head, each_tail, each_append}
-use Rattle.elimination.proofs.Vectors.{zeros}
-use Rattle.elimination.proofs.Divisibility.{zero_divides}
+use Rattle.lattice_theory.proofs.Vectors.{zeros}
+use Rattle.lattice_theory.proofs.Divisibility.{zero_divides}
 use Rattle.weight_frame.specs.Frame.{IsZeroVector, IsGreatestDivisor, degrees_of, Exchange, keeps, takes, turns, exchanges, Exchanges, none, more as one_more}
 use Rattle.weight_frame.proofs.Sums.{zero_exists, zero_unique, zero_pairs}
 use Rattle.weight_frame.proofs.Divisors.{greatest_unique, greatest_none, greatest_head}

@@ -5,7 +5,7 @@ use Rattle.lattice_theory.specs.Vector.{entry, dot, scaled}
 use Rattle.lattice_theory.proofs.Integers.{products_out, linear, minus_one-*ℤ}
 use Rattle.lattice_core.specs.Weights.{Weighted, weighted_degree}
 use Rattle.lattice_theory.proofs.Members.{Each, more, each_head, each_tail}
-use Rattle.elimination.proofs.Vectors.{entry-scaled, zeros, length-zeros, entry-zeros}
+use Rattle.lattice_theory.proofs.Vectors.{entry-scaled, zeros, length-zeros, entry-zeros}
 use Rattle.weight_frame.specs.Frame.{IsZeroVector, Exchange, keeps, takes, turns, exchanges, Exchanges, none, more as one_more, IsIntegerCombination}
 use Rattle.weight_frame.proofs.Sums.{sum_exists, sum_pairs, zero_pairs}
 use Rattle.weight_frame.proofs.Divisors.{pos_product, unit_combination, divisor_nonzero}

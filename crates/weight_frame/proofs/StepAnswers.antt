@@ -7,7 +7,7 @@ use Rattle.std.proofs.lemmas.Int.{ints, to_z-of_z}
 use Rattle.lattice_theory.proofs.Integers.{linear}
 use Rattle.lattice_theory.specs.Vector.{scaled}
 use Rattle.lattice_theory.proofs.Members.{empty, more, all_from_each}
-use Rattle.elimination.proofs.Vectors.{combined}
+use Rattle.lattice_theory.proofs.Vectors.{combined}
 use Rattle.weight_frame.specs.Frame.{IsZeroVector, IsGreatestDivisor, AreLeastMultipliers, Exchange, keeps, takes, turns, exchanges, largest, entry_limit, AreWithinEntryLimit}
 use Rattle.weight_frame.specs.Sums.{IsSmallSum, IsLargeSum}
 use Rattle.weight_frame.specs.Reached.{IsStep, IsStepAbove}

@@ -5,7 +5,7 @@ use Rattle.std.proofs.lemmas.Int.{ints}
 use Rattle.std.proofs.lemmas.Nat.Gcd.{le_of_dvd}
 use Rattle.lattice_theory.specs.Vector.{entry, DividesInteger}
 use Rattle.lattice_theory.proofs.Integers.{zero_or_not}
-use Rattle.elimination.proofs.Divisibility.{divides_zero}
+use Rattle.lattice_theory.proofs.Divisibility.{divides_zero}
 use Rattle.lattice_theory.proofs.Members.{Each, empty, more, each_from_all, all_from_each}
 use Rattle.lattice_core.specs.Weights.{Weighted, weighted_degree, columns_of, total, IsSummed, AreWellFormed, AreWithinLimits}
 use Rattle.weight_frame.specs.Frame.{IsGreatestDivisor, degrees_of, AreLeastMultipliers, largest, entry_limit}

@@ -4,7 +4,7 @@ use Rattle.std.proofs.lemmas.Int.{ints}
 use Rattle.lattice_theory.specs.Vector.{dot, scaled}
 use Rattle.lattice_theory.proofs.Integers.{products_out, linear, zero_or_not, positive_or_negative}
 use Rattle.lattice_theory.proofs.Members.{Each, empty, more}
-use Rattle.elimination.proofs.Vectors.{combined, zeros, length-scaled, dot-scaled_right}
+use Rattle.lattice_theory.proofs.Vectors.{combined, zeros, length-scaled, dot-scaled_right}
 use Rattle.weight_frame.specs.Frame.{IsSumOfMultiples, IsGreatestDivisor, Exchange, keeps, takes, turns, exchanges}
 use Rattle.weight_frame.proofs.Sums.{sum_exists, sum_unique, sum_pairs, zero_exists, zero_unique, zero_pairs}
 use Rattle.weight_frame.proofs.Divisors.{pos_product, only_value, next_divisor, multipliers_exist, multipliers_unique}

@@ -1,7 +1,7 @@
 -- Sums of multiples of two vectors, and the zero vector: they exist, there is only one, and what they pair to.
 use Rattle.std.proofs.Common.{◌≡◌, ℕ, List, length, ℤ, pos, ◌+ℤ◌, ◌*ℤ◌, sym, ap, ◌∙◌}
 use Rattle.lattice_theory.specs.Vector.{dot}
-use Rattle.elimination.proofs.Vectors.{combined, zeros, length-combined, entry-combined, dot-combined_right, same_from_entries, length-zeros, entry-zeros, dot-zeros, dot_comm}
+use Rattle.lattice_theory.proofs.Vectors.{combined, zeros, length-combined, entry-combined, dot-combined_right, same_from_entries, length-zeros, entry-zeros, dot-zeros, dot_comm}
 use Rattle.weight_frame.specs.Frame.{IsZeroVector, IsSumOfMultiples}
 
 -- p x + q y

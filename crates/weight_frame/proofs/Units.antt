@@ -1,11 +1,11 @@
 -- The list of the unit vectors: there is one, in echelon form, and every vector is a combination of it with its own entries.
 use Rattle.std.proofs.Common.{◌≡◌, ◌≢◌, ℕ, zero, suc, ◌+◌, ◌<◌, ◌≤◌, List, [], ◌∷◌, length, ℤ, pos, ◌+ℤ◌, ◌*ℤ◌, ◌<ℤ◌, refl, sym, ap, ap₂, subst, ◌∙◌, slice_index_or, arith, ⊎_elim}
 use Rattle.std.proofs.lemmas.Bool.{cases_eq}
-use Rattle.lattice_theory.specs.Vector.{entry, dot}
+use Rattle.lattice_theory.specs.Vector.{entry, dot, IsUnitVector}
 use Rattle.lattice_theory.proofs.Integers.{products_out, linear}
 use Rattle.lattice_theory.proofs.Members.{Each, empty, more}
-use Rattle.elimination.proofs.Vectors.{unit, length-unit, entry-unit_same, entry-unit_other, same_from_entries}
-use Rattle.weight_frame.specs.Frame.{IsUnitVector, AreUnitVectors, AreCoordinates, largest, entry_limit}
+use Rattle.lattice_theory.proofs.Vectors.{unit, length-unit, entry-unit_same, entry-unit_other, same_from_entries}
+use Rattle.weight_frame.specs.Frame.{AreUnitVectors, AreCoordinates, largest, entry_limit}
 use Rattle.weight_frame.proofs.Largest.{unit_small}
 use Rattle.weight_frame.proofs.Steps.{AreSized}
 use Rattle.weight_frame.specs.Echelon.{Leads, no_more, leads}

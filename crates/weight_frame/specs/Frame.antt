@@ -1,19 +1,13 @@
 -- The frame of a weight lattice: an integer basis that is made by a recursion over the weight systems. This project's own.
 use Rattle.std.specs.Prelude.{◌≡◌, ◌≢◌, ℕ, ◌*◌, ◌<◌, ◌≤◌, max, List, [], ◌∷◌, ◌++◌, length, map, ℤ, pos, negsuc, neg_ℤ, ◌+ℤ◌, ◌*ℤ◌, ◌<ℤ◌, nat_abs, slice_index_or}
 use Rattle.std.specs.List.{All}
-use Rattle.lattice_theory.specs.Vector.{entry, dot, scaled, DividesInteger}
+use Rattle.lattice_theory.specs.Vector.{entry, dot, scaled, DividesInteger, IsUnitVector}
 use Rattle.lattice_core.specs.Weights.{Weighted, weighted_degree, columns_of}
 
 -- x is the vector of n entries 0
 pub record IsZeroVector (n : ℕ) (x : List ℤ) : Type 0 where
   pub dimension : length x ≡ n
   pub zeros : (j : ℕ) → entry x j ≡ pos 0
-
--- x is the i-th unit vector of n entries: 1 at the place i, and 0 elsewhere
-pub record IsUnitVector (n i : ℕ) (x : List ℤ) : Type 0 where
-  pub dimension : length x ≡ n
-  pub one : entry x i ≡ pos 1
-  pub zeros : (j : ℕ) → j ≢ i → entry x j ≡ pos 0
 
 -- the n unit vectors, in order
 pub record AreUnitVectors (n : ℕ) (vectors : List (List ℤ)) : Type 0 where

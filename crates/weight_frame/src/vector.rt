@@ -1,7 +1,7 @@
 //! The vectors of the recursion, which lie in the value itself.
 ghost use Rattle.std.specs.Prelude.{◌≡◌, ◌<◌, ◌≤◌, length, negsuc, ⊤};
-ghost use Rattle.lattice_theory.specs.Vector.{scaled};
-ghost use Rattle.weight_frame.specs.Frame.{IsZeroVector, IsUnitVector, largest, entry_limit};
+ghost use Rattle.lattice_theory.specs.Vector.{scaled, IsUnitVector};
+ghost use Rattle.weight_frame.specs.Frame.{IsZeroVector, largest, entry_limit};
 
 use arrayvec::ArrayVec;
 use std::default::Default;

@@ -4,7 +4,7 @@ use Rattle.std.specs.List.{All}
 use Rattle.std.proofs.lemmas.List.Elements.{All-contains, All-weaker}
 use Rattle.lattice_theory.specs.Vector.{dot}
 use Rattle.lattice_theory.specs.Size.{absolute_sum}
-use Rattle.elimination.proofs.Vectors.{length-scaled}
+use Rattle.lattice_theory.proofs.Vectors.{length-scaled}
 use Rattle.hull.proofs.Vectors.{points_bound}
 use Rattle.hull.proofs.Finding.{leaf_adds, leaf_entries}
 use Rattle.hull.proofs.search.add_both_sides.Goals as goal

@@ -6,7 +6,7 @@ use Rattle.std.proofs.lemmas.Int.{to_z-of_z}
 use Rattle.std.proofs.lemmas.List.{take_more, take_all}
 use Rattle.lattice_theory.specs.Vector.{entry}
 use Rattle.lattice_theory.proofs.Members.{each_from_all, all_from_each, each_push}
-use Rattle.elimination.proofs.Vectors.{combined, entry-combined, length-combined}
+use Rattle.lattice_theory.proofs.Vectors.{combined, entry-combined, length-combined}
 use Rattle.lattice_core.proofs.combination.sum_of_multiples.Goals as goal
 use Rattle.lattice_core.proofs.combination.sum_of_multiples.Goals.{After-push}
 

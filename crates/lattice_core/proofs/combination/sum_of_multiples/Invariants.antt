@@ -2,7 +2,7 @@ use Rattle.std.proofs.Common.{◌≡◌, ◌^◌, ◌<◌, take}
 use Rattle.std.specs.Prelude.{nat_abs}
 use Rattle.std.specs.List.{All}
 use Rattle.arrayvec.specs.ArrayVec.{array_vec_len}
-use Rattle.elimination.proofs.Vectors.{combined}
+use Rattle.lattice_theory.proofs.Vectors.{combined}
 use Rattle.lattice_core.proofs.combination.sum_of_multiples.Given as goal
 
 abbrev pub invariant-loop-i : goal.invariant-loop-i

@@ -4,7 +4,7 @@ use Rattle.std.proofs.lemmas.List.Elements.{All-from_recursion}
 use Rattle.lattice_theory.specs.Vector.{entry, EndsAt}
 use Rattle.lattice_theory.specs.Affine.{Affine, value, Vanishes}
 use Rattle.lattice_theory.specs.Examples.{diagonal, in_plane, function, minus1}
-use Rattle.lattice_theory.proofs.Divisors.{divides_one}
+use Rattle.lattice_theory.proofs.Divisibility.{divides_one}
 use Rattle.lattice_theory.proofs.ExampleSteps.{by_two}
 use Rattle.lattice_theory.proofs.examples.diagonal_is_an_example.Goals as goal
 

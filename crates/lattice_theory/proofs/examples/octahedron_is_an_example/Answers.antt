@@ -1,7 +1,7 @@
 use Rattle.std.proofs.Common.{pos, refl, arith}
 use Rattle.std.proofs.lemmas.Int.{ints}
 use Rattle.lattice_theory.specs.Examples.{octahedron, in_space, minus1}
-use Rattle.lattice_theory.proofs.Divisors.{divides_one}
+use Rattle.lattice_theory.proofs.Divisibility.{divides_one}
 use Rattle.lattice_theory.proofs.ExampleSteps.{space_facet, space_multiple, one_nonzero}
 use Rattle.lattice_theory.proofs.examples.octahedron_is_an_example.Goals as goal
 

@@ -1,7 +1,7 @@
 use Rattle.std.proofs.Common.{pos, refl, arith}
 use Rattle.std.proofs.lemmas.Int.{ints}
 use Rattle.lattice_theory.specs.Examples.{segment, on_line, minus1, minus2}
-use Rattle.lattice_theory.proofs.Divisors.{divides_one, divides_minus_one}
+use Rattle.lattice_theory.proofs.Divisibility.{divides_one, divides_minus_one}
 use Rattle.lattice_theory.proofs.ExampleSteps.{line_facet, line_multiple, one_nonzero}
 use Rattle.lattice_theory.proofs.examples.segment_is_an_example.Goals as goal
 

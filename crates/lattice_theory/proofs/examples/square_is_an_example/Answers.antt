@@ -4,7 +4,7 @@ use Rattle.std.proofs.lemmas.List.Elements.{All-from_recursion, All-contains}
 use Rattle.lattice_theory.specs.Vector.{entry, others}
 use Rattle.lattice_theory.specs.Affine.{Affine, value, VanishesWith, IsMultiple}
 use Rattle.lattice_theory.specs.Examples.{square, in_plane, function, minus1}
-use Rattle.lattice_theory.proofs.Divisors.{divides_one}
+use Rattle.lattice_theory.proofs.Divisibility.{divides_one}
 use Rattle.lattice_theory.proofs.ExampleSteps.{by_two, plane_facet, plane_multiple, one_nonzero, nonnegative_points}
 use Rattle.lattice_theory.proofs.examples.square_is_an_example.Goals as goal
 

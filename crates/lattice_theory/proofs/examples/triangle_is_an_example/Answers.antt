@@ -1,7 +1,7 @@
 use Rattle.std.proofs.Common.{pos, refl, arith}
 use Rattle.std.proofs.lemmas.Int.{ints}
 use Rattle.lattice_theory.specs.Examples.{triangle, in_plane, minus1, minus3, minus4}
-use Rattle.lattice_theory.proofs.Divisors.{divides_one, divides_neighbors}
+use Rattle.lattice_theory.proofs.Divisibility.{divides_one, divides_neighbors}
 use Rattle.lattice_theory.proofs.ExampleSteps.{plane_facet, plane_multiple, one_nonzero}
 use Rattle.lattice_theory.proofs.examples.triangle_is_an_example.Goals as goal
 

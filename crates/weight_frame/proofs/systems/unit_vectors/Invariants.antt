@@ -1,6 +1,6 @@
 use Rattle.std.proofs.Common.{◌≡◌, ℕ, ◌<◌, get_or, List, ℤ}
 use Rattle.arrayvec.specs.ArrayVec.{array_vec_len}
-use Rattle.weight_frame.specs.Frame.{IsUnitVector}
+use Rattle.lattice_theory.specs.Vector.{IsUnitVector}
 use Rattle.weight_frame.proofs.systems.unit_vectors.Given as goal
 
 abbrev pub invariant-loop-i : goal.invariant-loop-i

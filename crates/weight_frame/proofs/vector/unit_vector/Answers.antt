@@ -1,5 +1,5 @@
 use Rattle.std.proofs.Common.{arith}
-use Rattle.weight_frame.specs.Frame.{IsUnitVector}
+use Rattle.lattice_theory.specs.Vector.{IsUnitVector}
 use Rattle.weight_frame.proofs.Largest.{unit_small}
 use Rattle.weight_frame.proofs.vector.unit_vector.Goals as goal
 

@@ -1,9 +1,9 @@
 -- Combinations of affine functions, and functions less a number.
 use Rattle.std.proofs.Common.{◌≡◌, ℕ, List, length, ℤ, ◌+ℤ◌, ◌-ℤ◌, ◌*ℤ◌, arith, pos, ◌∙◌}
-use Rattle.lattice_theory.specs.Vector.{dot}
+use Rattle.lattice_theory.specs.Vector.{entry, dot}
 use Rattle.lattice_theory.specs.Affine.{Affine, value}
 use Rattle.lattice_theory.proofs.Integers.{products_out, linear}
-use Rattle.elimination.proofs.Vectors.{combined, dot-combined_left, length-combined}
+use Rattle.lattice_theory.proofs.Vectors.{combined, dot-combined_left, entry-combined, length-combined}
 
 -- p f + q g
 pub mixed : ℤ → Affine → ℤ → Affine → Affine
@@ -13,6 +13,11 @@ mixed p f q g = record { normal = combined p f.normal q g.normal; constant = p *
 pub length-mixed : (n : ℕ) (p : ℤ) (f : Affine) (q : ℤ) (g : Affine) → length f.normal ≡ n → length g.normal ≡ n → length (mixed p f q g).normal ≡ n
 unfolding mixed
 length-mixed n p f q g e e' = length-combined n p f.normal q g.normal e e'
+
+-- its entries
+pub entry-mixed : (p : ℤ) (f : Affine) (q : ℤ) (g : Affine) (i : ℕ) → entry (mixed p f q g).normal i ≡ p *ℤ entry f.normal i +ℤ q *ℤ entry g.normal i
+unfolding mixed
+entry-mixed p f q g i = entry-combined p f.normal q g.normal i
 
 -- its value
 pub value-mixed : (p : ℤ) (f : Affine) (q : ℤ) (g : Affine) (x : List ℤ) → value (mixed p f q g) x ≡ p *ℤ value f x +ℤ q *ℤ value g x

@@ -1,5 +1,5 @@
 //! Primitive vectors: those whose entries have the greatest common divisor 1.
-ghost use Rattle.elimination.specs.Laws.{PrimitiveMultiple, PrimitivePart, PrimitiveSame};
+ghost use Rattle.lattice_theory.specs.Laws.{PrimitiveMultiple, PrimitivePart, PrimitiveSame};
 
 /// An integer vector on the line of a primitive vector is an integer multiple of it.
 pub fn primitive_multiple()

@@ -1,6 +1,6 @@
 -- The laws of primitive vectors.
-use Rattle.elimination.specs.Laws.{PrimitiveMultiple, PrimitivePart, PrimitiveSame}
-use Rattle.elimination.proofs.Divisibility.{multiple_of_primitive, primitive_part, primitive_same}
+use Rattle.lattice_theory.specs.Laws.{PrimitiveMultiple, PrimitivePart, PrimitiveSame}
+use Rattle.lattice_theory.proofs.Divisibility.{multiple_of_primitive, primitive_part, primitive_same}
 
 -- a vector on the line of a primitive one
 pub primitive_multiple_lem : PrimitiveMultiple

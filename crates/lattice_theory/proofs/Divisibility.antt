@@ -3,10 +3,9 @@
 use Rattle.std.proofs.Common.{◌≡◌, ◌≢◌, ℕ, zero, suc, ◌/◌, ◌%◌, ◌<◌, ◌≤◌, List, [], ◌∷◌, ℤ, pos, negsuc, ◌+ℤ◌, ◌-ℤ◌, ◌*ℤ◌, neg_ℤ, ◌⊎◌, inl, inr, ⊎_elim, refl, sym, ap, ap₂, subst, ◌∙◌, All, arith}
 use Rattle.std.proofs.lemmas.Int.{ints}
 use Rattle.lattice_theory.specs.Vector.{dot, scaled, DividesInteger, IsPrimitive}
-use Rattle.lattice_theory.proofs.Divisors.{divides_one}
 use Rattle.lattice_theory.proofs.Integers.{products_out, linear, cancel_left, one-*ℤ, *ℤ-one, neg-*ℤ, *ℤ-neg, *ℤ_assoc, *ℤ_comm, positive_nonzero}
 use Rattle.lattice_theory.proofs.Members.{Each, empty, more, each_from_all, all_from_each, each_head, each_tail}
-use Rattle.elimination.proofs.Vectors.{dot-scaled_left, dot-scaled_right, scaled-one}
+use Rattle.lattice_theory.proofs.Vectors.{dot-scaled_left, dot-scaled_right, scaled-one}
 
 -- what d divides is closed under sums, multiples and negation
 pub divides_zero : (d : ℕ) → DividesInteger d (pos 0)
@@ -37,6 +36,22 @@ divides_dot d (a ∷ c) (b ∷ x) h = divides_sum d (a *ℤ b) (dot c x) (divide
 -- 0 divides only 0
 pub zero_divides : (a : ℤ) → DividesInteger 0 a → a ≡ pos 0
 zero_divides a (k, e) = sym e ∙ simp products_out
+
+-- a number that divides 1 is 1
+pub divides_one : (d : ℕ) → DividesInteger d (pos 1) → d ≡ 1
+divides_one zero (k, e) = absurd (omega (arith, ints))
+divides_one (suc zero) (k, e) = refl
+divides_one (suc (suc d)) (pos zero, e) = absurd (omega (arith, ints))
+divides_one (suc (suc d)) (pos (suc k), e) = absurd (omega (arith, ints))
+divides_one (suc (suc d)) (negsuc k, e) = absurd (omega (arith, ints))
+
+-- so is one that divides -1, or two numbers next to each other
+pub divides_minus_one : (d : ℕ) → DividesInteger d (negsuc 0) → d ≡ 1
+divides_minus_one d (k, e) = divides_one d (neg_ℤ k, simp products_out (omega (arith, linear)))
+
+-- the second of these
+pub divides_neighbors : (d : ℕ) (a b : ℤ) → a ≡ b +ℤ pos 1 → DividesInteger d a → DividesInteger d b → d ≡ 1
+divides_neighbors d a b next (k, e) (l, f) = divides_one d (k -ℤ l, simp products_out (omega (arith, linear)))
 
 -- the greatest common divisor of two naturals as a combination of both
 pub record HasBezout (a b : ℤ) : Type 0 where

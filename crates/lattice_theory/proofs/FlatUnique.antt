@@ -8,23 +8,13 @@ use Rattle.lattice_theory.specs.Vector.{entry, dot, scaled, EndsAt}
 use Rattle.lattice_theory.specs.Affine.{Affine, value, Vanishes}
 use Rattle.lattice_theory.specs.Facet.{IsFlatFunction}
 use Rattle.lattice_theory.proofs.Integers.{products_out, linear, positive_nonzero, zero_terms}
-use Rattle.elimination.proofs.Vectors.{combined, dot-combined_left, length-combined, entry-scaled, entry-combined, same_from_entries, zero_or_ends, length-scaled}
-use Rattle.elimination.proofs.Divisibility.{primitive_same}
-
--- the function p f + q g
-abbrev blend : ℤ → Affine → ℤ → Affine → Affine
-blend p f q g = record { normal = combined p f.normal q g.normal; constant = p *ℤ f.constant +ℤ q *ℤ g.constant }
-
-regroup : (p q a b c d : ℤ) → (p *ℤ a +ℤ q *ℤ b) +ℤ (p *ℤ c +ℤ q *ℤ d) ≡ p *ℤ (a +ℤ c) +ℤ q *ℤ (b +ℤ d)
-regroup p q a b c d = simp products_out (omega (arith, linear))
-
--- its values
-blend_value : (p : ℤ) (f : Affine) (q : ℤ) (g : Affine) (x : List ℤ) → value (blend p f q g) x ≡ p *ℤ value f x +ℤ q *ℤ value g x
-blend_value p f q g x = rw (dot-combined_left p f.normal q g.normal x) (regroup p q (dot f.normal x) (dot g.normal x) f.constant g.constant)
+use Rattle.lattice_theory.proofs.Vectors.{entry-scaled, same_from_entries, zero_or_ends, length-scaled}
+use Rattle.lattice_theory.proofs.Functions.{mixed, length-mixed, entry-mixed, value-mixed}
+use Rattle.lattice_theory.proofs.Divisibility.{primitive_same}
 
 -- it vanishes where both do
-blend_vanishes : (points : List (List ℤ)) (p : ℤ) (f : Affine) (q : ℤ) (g : Affine) → Vanishes points f → Vanishes points g → Vanishes points (blend p f q g)
-blend_vanishes points p f q g h k i d within = blend_value p f q g _ ∙ zero_terms p q _ _ (h i d within) (k i d within)
+mixed_vanishes : (points : List (List ℤ)) (p : ℤ) (f : Affine) (q : ℤ) (g : Affine) → Vanishes points f → Vanishes points g → Vanishes points (mixed p f q g)
+mixed_vanishes points p f q g h k i d within = value-mixed p f q g _ ∙ zero_terms p q _ _ (h i d within) (k i d within)
 
 -- the entries of two flat functions where both end
 cross : (a b : ℤ) → b *ℤ a +ℤ neg_ℤ a *ℤ b ≡ pos 0
@@ -42,11 +32,12 @@ same_place n points f g hf hg =
     omega arith
 
 -- with a and b their entries at that place k, b f - a g is 0 at k and beyond
-late_zero : (f g : List ℤ) (k j : ℕ) → EndsAt f k → EndsAt g k → k ≤ j → entry (combined (entry g k) f (neg_ℤ (entry f k)) g) j ≡ pos 0
+late_zero : (f g : Affine) (k j : ℕ) → EndsAt f.normal k → EndsAt g.normal k → k ≤ j
+    → entry (mixed (entry g.normal k) f (neg_ℤ (entry f.normal k)) g).normal j ≡ pos 0
 late_zero f g k j ends_f ends_g late =
-    entry-combined (entry g k) f (neg_ℤ (entry f k)) g j ∙ ⊎_elim
-    (λ (beyond : k < j). zero_terms (entry g k) (neg_ℤ (entry f k)) _ _ (ends_f.zeros j beyond) (ends_g.zeros j beyond))
-    (λ (upto : j ≤ k). let same : j ≡ k = omega arith in rw same (cross (entry f k) (entry g k)))
+    entry-mixed (entry g.normal k) f (neg_ℤ (entry f.normal k)) g j ∙ ⊎_elim
+    (λ (beyond : k < j). zero_terms (entry g.normal k) (neg_ℤ (entry f.normal k)) _ _ (ends_f.zeros j beyond) (ends_g.zeros j beyond))
+    (λ (upto : j ≤ k). let same : j ≡ k = omega arith in rw same (cross (entry f.normal k) (entry g.normal k)))
     (cases_lt k j)
 
 -- so it has no last entry that isn't 0, where no function that vanishes on the points ends before k: the two normals are on one line
@@ -56,15 +47,15 @@ same_line : (n : ℕ) (points : List (List ℤ)) (f g : Affine) (k : ℕ) → le
 same_line n points f g k dimension_f dimension_g vanishes_f vanishes_g ends_f ends_g earliest =
     let a = entry f.normal k in
     let b = entry g.normal k in
-    let h : Affine = blend b f (neg_ℤ a) g in
-    let dimension = length-combined n b f.normal (neg_ℤ a) g.normal dimension_f dimension_g in
-    let vanishes = blend_vanishes points b f (neg_ℤ a) g vanishes_f vanishes_g in
+    let h : Affine = mixed b f (neg_ℤ a) g in
+    let dimension = length-mixed n b f (neg_ℤ a) g dimension_f dimension_g in
+    let vanishes = mixed_vanishes points b f (neg_ℤ a) g vanishes_f vanishes_g in
     let zero : (i : ℕ) → entry h.normal i ≡ pos 0 = ⊎_elim
     (λ (z : (j : ℕ) → entry h.normal j ≡ pos 0). z)
-    (λ (e : (j : ℕ) × (j < length h.normal) × EndsAt h.normal j). absurd (e.2.nonzero (late_zero f.normal g.normal k e.0 ends_f ends_g (earliest h e.0 dimension vanishes e.2))))
+    (λ (e : (j : ℕ) × (j < length h.normal) × EndsAt h.normal j). absurd (e.2.nonzero (late_zero f g k e.0 ends_f ends_g (earliest h e.0 dimension vanishes e.2))))
     (zero_or_ends h.normal) in
     same_from_entries _ _ (length-scaled b f.normal ∙ dimension_f ∙ sym dimension_g ∙ sym (length-scaled a g.normal)) (λ i.
-    entry-scaled b f.normal i ∙ same_entry a b (entry f.normal i) (entry g.normal i) (sym (entry-combined b f.normal (neg_ℤ a) g.normal i) ∙ zero i) ∙ sym (entry-scaled a g.normal i))
+    entry-scaled b f.normal i ∙ same_entry a b (entry f.normal i) (entry g.normal i) (sym (entry-mixed b f (neg_ℤ a) g i) ∙ zero i) ∙ sym (entry-scaled a g.normal i))
 
 -- two vectors that aren't opposite
 not_opposite : (f g : List ℤ) (k : ℕ) → pos 0 <ℤ entry f k → pos 0 <ℤ entry g k → f ≡ scaled (negsuc 0) g → ⊥

@@ -1,5 +1,0 @@
-use Rattle.elimination.proofs.PrimitiveLaws.{primitive_multiple_lem}
-use Rattle.elimination.proofs.primitive.primitive_multiple.Goals as goal
-
-pub returns : goal.returns
-returns c = primitive_multiple_lem

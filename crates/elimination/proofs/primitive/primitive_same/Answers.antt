@@ -1,5 +1,0 @@
-use Rattle.elimination.proofs.PrimitiveLaws.{primitive_same_lem}
-use Rattle.elimination.proofs.primitive.primitive_same.Goals as goal
-
-pub returns : goal.returns
-returns c = primitive_same_lem
