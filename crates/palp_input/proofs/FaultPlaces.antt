@@ -27,7 +27,8 @@ Below size [] = Unit {0}
 Below size (piece ∷ pieces) = (place_of piece ≤ size) × Below size pieces
 
 join_below_case : (size at : ℕ) (token : Span) (pieces : List Piece) (b : Bool) → at ≤ size → token.at ≤ size → Below size pieces
-    → Below size (cond b (Token (record { at = at; end = token.end }) ∷ pieces) (Token (record { at = at; end = at + 1 }) ∷ Token token ∷ pieces))
+    → Below size (cond b (Token (record { at = at; end = token.end }) ∷ pieces)
+    (Token (record { at = at; end = at + 1 }) ∷ Token token ∷ pieces))
 unfolding Below
 join_below_case size at token pieces true le lt rest = (le, rest)
 join_below_case size at token pieces false le lt rest = (le, (lt, rest))
@@ -39,7 +40,8 @@ join_below size at (Token token ∷ pieces) le h = join_below_case size at token
 join_below size at (Wrong place ∷ pieces) le h = (le, h)
 join_below size at (LineEnd place ∷ pieces) le h = (le, h)
 
-step_below : (blank feed token : Bool) (size at : ℕ) (pieces : List Piece) → at ≤ size → Below size pieces → Below size (step_by blank feed token at pieces)
+step_below : (blank feed token : Bool) (size at : ℕ) (pieces : List Piece) → at ≤ size → Below size pieces
+    → Below size (step_by blank feed token at pieces)
 unfolding Below step_by
 step_below true feed token size at pieces le h = h
 step_below false true token size at pieces le h = (le, h)
@@ -50,7 +52,8 @@ below : (size at : ℕ) (bytes : List ℕ) → at + length bytes ≤ size → Be
 unfolding Below step_by
 below size at [] le = tt
 below size at (byte ∷ bytes) le =
-    step_below (is_blank byte) (byte == line_feed) (is_token_byte byte) size at (pieces_of (at + 1) bytes) (omega arith) (below size (at + 1) bytes (omega arith))
+    step_below (is_blank byte) (byte == line_feed) (is_token_byte byte) size at (pieces_of (at + 1) bytes) (omega arith)
+    (below size (at + 1) bytes (omega arith))
 
 below_behind : (text : List ℕ) (end : ℕ) → ((end ≤ length text) ⊎ (length text ≤ end)) → Below (length text) (pieces_of end (drop end text))
 unfolding Below
@@ -72,7 +75,8 @@ before_in size number (LeadingNumbers numbers) le h = (le, h)
 before_in size number (FaultyLine fault) le h = h
 
 other_in : (size : ℕ) (first : Bool) (at end : ℕ) (bytes : List ℕ) (quotient : Bool) → at ≤ size
-    → LineIn size (cond first (FaultyLine (fault_at BadNumber at end)) (cond quotient (FaultyLine (fault_at Quotient at (at + 2))) (LeadingNumbers [])))
+    → LineIn size (cond first (FaultyLine (fault_at BadNumber at end))
+    (cond quotient (FaultyLine (fault_at Quotient at (at + 2))) (LeadingNumbers [])))
 unfolding LineIn NumbersIn
 other_in size true at end bytes quotient le = le
 other_in size false at end bytes true le = le
@@ -90,7 +94,8 @@ line_in : (text : List ℕ) (size : ℕ) (first : Bool) (pieces : List Piece) �
 unfolding Below LineIn NumbersIn
 line_in text size first [] h = tt
 line_in text size first (Token token ∷ pieces) h =
-    token_in size first token.at token.end (slice_range text token.at token.end) (numeral_of (slice_range text token.at token.end)) (line_read text false pieces)
+    token_in size first token.at token.end (slice_range text token.at token.end) (numeral_of (slice_range text token.at token.end))
+    (line_read text false pieces)
     h.0 (line_in text size false pieces h.1)
 line_in text size first (Wrong at ∷ pieces) h = h.0
 line_in text size first (LineEnd at ∷ pieces) h = tt
@@ -101,7 +106,8 @@ MatrixIn size (AllEntries entries after) = Unit {0}
 MatrixIn size (FaultyMatrix fault) = fault.at ≤ size
 MatrixIn size MissingEntries = Unit {0}
 
-entry_in : (size at end : ℕ) (numeral : Numeral) (rest : MatrixRead) → at ≤ size → MatrixIn size rest → MatrixIn size (matrix_token at end numeral rest)
+entry_in : (size at end : ℕ) (numeral : Numeral) (rest : MatrixRead) → at ≤ size → MatrixIn size rest
+    → MatrixIn size (matrix_token at end numeral rest)
 unfolding MatrixIn
 entry_in size at end NoNumber rest le h = le
 entry_in size at end TooLarge rest le h = le
@@ -109,7 +115,8 @@ entry_in size at end (Number value) (AllEntries entries after) le h = tt
 entry_in size at end (Number value) (FaultyMatrix fault) le h = h
 entry_in size at end (Number value) MissingEntries le h = tt
 
-matrix_in : (text : List ℕ) (size count after : ℕ) (pieces : List Piece) → Below size pieces → MatrixIn size (matrix_read text count after pieces)
+matrix_in : (text : List ℕ) (size count after : ℕ) (pieces : List Piece) → Below size pieces
+    → MatrixIn size (matrix_read text count after pieces)
 unfolding Below MatrixIn
 matrix_in text size zero after pieces h = tt
 matrix_in text size (suc count) after [] h = tt
@@ -132,12 +139,14 @@ TakenIn : ℕ → Option Taken → Type 0
 TakenIn size None = Unit {0}
 TakenIn size (Some taken) = NumbersIn size taken.weights × NumbersIn size taken.rest
 
-before_taken_in : (size : ℕ) (number : LineNumber) (taken : Option Taken) → number.at ≤ size → TakenIn size taken → TakenIn size (before_taken number taken)
+before_taken_in : (size : ℕ) (number : LineNumber) (taken : Option Taken) → number.at ≤ size → TakenIn size taken
+    → TakenIn size (before_taken number taken)
 unfolding TakenIn NumbersIn
 before_taken_in size number None le h = tt
 before_taken_in size number (Some taken) le h = ((le, h.0), h.1)
 
-take_in_case : (size : ℕ) (number : LineNumber) (numbers : List LineNumber) (taken : Option Taken) (a b : Bool) → number.at ≤ size → NumbersIn size numbers → TakenIn size taken
+take_in_case : (size : ℕ) (number : LineNumber) (numbers : List LineNumber) (taken : Option Taken) (a b : Bool) → number.at ≤ size
+    → NumbersIn size numbers → TakenIn size taken
     → TakenIn size (cond a (before_taken number taken) (cond b (Some (record { weights = []; rest = number ∷ numbers })) None))
 unfolding TakenIn NumbersIn
 take_in_case size number numbers taken true b le h k = before_taken_in size number taken le k
@@ -146,18 +155,21 @@ take_in_case size number numbers taken false false le h k = tt
 
 take_in : (size degree : ℕ) (numbers : List LineNumber) → NumbersIn size numbers → TakenIn size (take_weights degree numbers)
 unfolding TakenIn NumbersIn
-take_in size degree [] h = elim (degree == 0) as (λ b. TakenIn size (cond b (Some (record { weights = []; rest = [] })) None)) [ true ↦ (tt, tt) | false ↦ tt ]
+take_in size degree [] h = elim (degree == 0) as (λ b. TakenIn size (cond b (Some (record { weights = []; rest = [] })) None))
+    [ true ↦ (tt, tt) | false ↦ tt ]
 take_in size degree (number ∷ numbers) h =
     take_in_case size number numbers (take_weights (degree - number.value) numbers) (nat_le number.value degree) (degree == 0) h.0 h.1
     (take_in size (degree - number.value) numbers h.1)
 
-before_systems_in : (size : ℕ) (system : PlacedSystem) (read : SystemsRead) → system.degree.at ≤ size → NumbersIn size system.weights → ReadIn size read
+before_systems_in : (size : ℕ) (system : PlacedSystem) (read : SystemsRead) → system.degree.at ≤ size → NumbersIn size system.weights
+    → ReadIn size read
     → ReadIn size (before_systems system read)
 unfolding ReadIn SystemsIn
 before_systems_in size system (Summed systems) le h k = (le, h, k)
 before_systems_in size system (WrongSum at) le h k = k
 
-systems_in_case : (size : ℕ) (degree : LineNumber) (taken : Option Taken) (rest : List LineNumber → SystemsRead) → degree.at ≤ size → TakenIn size taken
+systems_in_case : (size : ℕ) (degree : LineNumber) (taken : Option Taken) (rest : List LineNumber → SystemsRead) → degree.at ≤ size
+    → TakenIn size taken
     → ((numbers : List LineNumber) → NumbersIn size numbers → ReadIn size (rest numbers))
     → ReadIn size (elim taken as (λ _. SystemsRead) [
       | None ↦ WrongSum degree.at
@@ -165,14 +177,16 @@ systems_in_case : (size : ℕ) (degree : LineNumber) (taken : Option Taken) (res
     ])
 unfolding ReadIn TakenIn
 systems_in_case size degree None rest le h k = le
-systems_in_case size degree (Some taken) rest le h k = before_systems_in size (record { degree = degree; weights = taken.weights }) (rest taken.rest) le h.0 (k taken.rest h.1)
+systems_in_case size degree (Some taken) rest le h k = before_systems_in size (record { degree = degree; weights = taken.weights })
+    (rest taken.rest) le h.0 (k taken.rest h.1)
 
 systems_in : (size most : ℕ) (numbers : List LineNumber) → NumbersIn size numbers → ReadIn size (systems_read most numbers)
 unfolding NumbersIn ReadIn SystemsIn
 systems_in size most [] h = tt
 systems_in size zero (degree ∷ numbers) h = tt
 systems_in size (suc most) (degree ∷ numbers) h =
-    systems_in_case size degree (take_weights degree.value numbers) (systems_read most) h.0 (take_in size degree.value numbers h.1) (systems_in size most)
+    systems_in_case size degree (take_weights degree.value numbers) (systems_read most) h.0 (take_in size degree.value numbers h.1)
+    (systems_in size most)
 
 -- the fault of an item
 NextIn : ℕ → Next → Type 0
@@ -193,18 +207,21 @@ other_length_in : (size count : ℕ) (systems : List PlacedSystem) → SystemsIn
 unfolding SystemsIn PlaceIn
 other_length_in size count [] h = tt
 other_length_in size count (system ∷ systems) h =
-    length_in_case size system.degree.at (other_length count systems) (length system.weights == count) h.0 (other_length_in size count systems h.2)
+    length_in_case size system.degree.at (other_length count systems) (length system.weights == count) h.0
+    (other_length_in size count systems h.2)
 
 column_in_case : (size at : ℕ) (rest : Option ℕ) (b : Bool) → at ≤ size → PlaceIn size rest → PlaceIn size (cond b (Some at) rest)
 unfolding PlaceIn
 column_in_case size at rest true le h = le
 column_in_case size at rest false le h = h
 
-zero_column_in : (size place : ℕ) (numbers : List LineNumber) (systems : List PlacedSystem) → NumbersIn size numbers → PlaceIn size (zero_column place numbers systems)
+zero_column_in : (size place : ℕ) (numbers : List LineNumber) (systems : List PlacedSystem) → NumbersIn size numbers
+    → PlaceIn size (zero_column place numbers systems)
 unfolding NumbersIn PlaceIn
 zero_column_in size place [] systems h = tt
 zero_column_in size place (number ∷ numbers) systems h =
-    column_in_case size number.at (zero_column (place + 1) numbers systems) (is_zero_column place systems) h.0 (zero_column_in size (place + 1) numbers systems h.1)
+    column_in_case size number.at (zero_column (place + 1) numbers systems) (is_zero_column place systems) h.0
+    (zero_column_in size (place + 1) numbers systems h.1)
 
 summed_in_case : (size end : ℕ) (other column : Option ℕ) (item : Listed) → PlaceIn size other → PlaceIn size column
     → NextIn size (elim other as (λ _. Next) [
@@ -225,7 +242,8 @@ systems_item_in size end (Summed (first ∷ systems)) h =
     (ListedWeights (map weighted_of (first ∷ systems))) (other_length_in size (length first.weights) systems h.2)
     (zero_column_in size 0 first.weights (first ∷ systems) h.1)
 
-matrix_item_in : (text : List ℕ) (size at lines columns : ℕ) (read : MatrixRead) → at ≤ size → MatrixIn size read → NextIn size (matrix_item text at lines columns read)
+matrix_item_in : (text : List ℕ) (size at lines columns : ℕ) (read : MatrixRead) → at ≤ size → MatrixIn size read
+    → NextIn size (matrix_item text at lines columns read)
 unfolding NextIn MatrixIn
 matrix_item_in text size at lines columns (AllEntries entries after) le h = tt
 matrix_item_in text size at lines columns (FaultyMatrix fault) le h = h
@@ -243,19 +261,23 @@ unfolding NextIn
 given_in size item end rest true h = tt
 given_in size item end rest false h = h
 
-faulty_in : (size at end : ℕ) (rest : Next) (b : Bool) → at ≤ size → NextIn size rest → NextIn size (cond b (Faulty (fault_at NoWeights at end)) rest)
+faulty_in : (size at end : ℕ) (rest : Next) (b : Bool) → at ≤ size → NextIn size rest
+    → NextIn size (cond b (Faulty (fault_at NoWeights at end)) rest)
 unfolding NextIn
 faulty_in size at end rest true le h = le
 faulty_in size at end rest false le h = h
 
-numbers_in : (text : List ℕ) (end : ℕ) (numbers : List LineNumber) → NumbersIn (length text) numbers → NextIn (length text) (numbers_item text end numbers)
+numbers_in : (text : List ℕ) (end : ℕ) (numbers : List LineNumber) → NumbersIn (length text) numbers
+    → NextIn (length text) (numbers_item text end numbers)
 unfolding NumbersIn NextIn
 numbers_in text end [] h = tt
 numbers_in text end (only ∷ []) h = h.0
 numbers_in text end (lines ∷ columns ∷ []) h =
     given_in (length text) (ListedPoints lines.value columns.value []) end _ (lines.value * columns.value == 0)
-    (matrix_item_in text (length text) lines.at lines.value columns.value (matrix_read text (lines.value * columns.value) end (pieces_of end (drop end text))) h.0
-    (matrix_in text (length text) (lines.value * columns.value) end (pieces_of end (drop end text)) (below_behind text end (cases_le end (length text)))))
+    (matrix_item_in text (length text) lines.at lines.value columns.value
+    (matrix_read text (lines.value * columns.value) end (pieces_of end (drop end text))) h.0
+    (matrix_in text (length text) (lines.value * columns.value) end (pieces_of end (drop end text))
+    (below_behind text end (cases_le end (length text)))))
 numbers_in text end (degree ∷ first ∷ second ∷ more) h =
     faulty_in (length text) degree.at end _ (degree.value == 0) h.0
     (systems_item_in (length text) end (systems_read (length (degree ∷ first ∷ second ∷ more)) (degree ∷ first ∷ second ∷ more))
@@ -270,9 +292,11 @@ pieces_in : (text : List ℕ) (pieces : List Piece) → Below (length text) piec
 unfolding Below NextIn
 pieces_in text [] h = tt
 pieces_in text (Token token ∷ pieces) h =
-    line_item_in text (first_line_end (length text) pieces) (line_read text true (Token token ∷ pieces)) (line_in text (length text) true (Token token ∷ pieces) h)
+    line_item_in text (first_line_end (length text) pieces) (line_read text true (Token token ∷ pieces))
+    (line_in text (length text) true (Token token ∷ pieces) h)
 pieces_in text (Wrong at ∷ pieces) h =
-    line_item_in text (first_line_end (length text) pieces) (line_read text true (Wrong at ∷ pieces)) (line_in text (length text) true (Wrong at ∷ pieces) h)
+    line_item_in text (first_line_end (length text) pieces) (line_read text true (Wrong at ∷ pieces))
+    (line_in text (length text) true (Wrong at ∷ pieces) h)
 pieces_in text (LineEnd at ∷ pieces) h = pieces_in text pieces h.1
 
 -- the place of the fault of a text stands in it

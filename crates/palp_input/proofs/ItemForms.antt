@@ -35,7 +35,8 @@ small_value sign value e true t = let lt : value < bound = grind (arith, nat_tes
 small_digits : (sign : ℕ → ℤ) (digits : List ℕ) → ((n : ℕ) → nat_abs (sign n) ≡ n) → (b : Bool)
     → SmallNumeral (cond b (cond (nat_lt (digits_value 10 digits) bound) (Number (sign (digits_value 10 digits))) TooLarge) NoNumber)
 small_digits sign digits e false = tt
-small_digits sign digits e true = small_value sign (digits_value 10 digits) (e (digits_value 10 digits)) (nat_lt (digits_value 10 digits) bound) refl
+small_digits sign digits e true = small_value sign (digits_value 10 digits) (e (digits_value 10 digits))
+    (nat_lt (digits_value 10 digits) bound) refl
 
 size_of_negative : (n : ℕ) → nat_abs (neg_ℤ (pos n)) ≡ n
 size_of_negative zero = refl
@@ -65,7 +66,8 @@ small_token : (first : Bool) (at end : ℕ) (bytes : List ℕ) (numeral : Numera
     → SmallLine (line_token first at end bytes numeral rest)
 small_token true at end bytes NoNumber rest n h = tt
 small_token false at end bytes NoNumber rest n h =
-    elim (starts_with eqb bytes (codes "/Z")) as (λ b. SmallLine (cond b (FaultyLine (fault_at Quotient at (at + 2))) (LeadingNumbers []))) [ true ↦ tt | false ↦ tt ]
+    elim (starts_with eqb bytes (codes "/Z")) as (λ b. SmallLine (cond b (FaultyLine (fault_at Quotient at (at + 2))) (LeadingNumbers [])))
+    [ true ↦ tt | false ↦ tt ]
 small_token first at end bytes TooLarge rest n h = tt
 small_token first at end bytes (Number (pos value)) rest n h = small_before (record { at = at; value = value }) rest n h
 small_token first at end bytes (Number (negsuc value)) rest n h = tt
@@ -73,7 +75,8 @@ small_token first at end bytes (Number (negsuc value)) rest n h = tt
 small_line : (text : List ℕ) (first : Bool) (pieces : List Piece) → SmallLine (line_read text first pieces)
 small_line text first [] = tt
 small_line text first (Token token ∷ pieces) =
-    small_token first token.at token.end (slice_range text token.at token.end) (numeral_of (slice_range text token.at token.end)) (line_read text false pieces)
+    small_token first token.at token.end (slice_range text token.at token.end) (numeral_of (slice_range text token.at token.end))
+    (line_read text false pieces)
     (small_numeral (slice_range text token.at token.end)) (small_line text false pieces)
 small_line text first (Wrong at ∷ pieces) = tt
 small_line text first (LineEnd at ∷ pieces) = tt
@@ -100,7 +103,8 @@ abbrev IsSum : ℕ → Option Taken → Type 0
 IsSum degree None = Unit {0}
 IsSum degree (Some taken) = TakesSum degree taken
 
-sum_before : (degree : ℕ) (number : LineNumber) (taken : Option Taken) → number.value ≤ degree → number.value < bound → IsSum (degree - number.value) taken
+sum_before : (degree : ℕ) (number : LineNumber) (taken : Option Taken) → number.value ≤ degree → number.value < bound
+    → IsSum (degree - number.value) taken
     → IsSum degree (before_taken number taken)
 sum_before degree number None le lt h = tt
 sum_before degree number (Some taken) le lt h = record {
@@ -110,7 +114,8 @@ sum_before degree number (Some taken) le lt h = record {
   positive = h.positive;
 }
 
-sum_case : (degree : ℕ) (number : LineNumber) (numbers : List LineNumber) (taken : Option Taken) (a b : Bool) → nat_le number.value degree ≡ a → (degree == 0) ≡ b
+sum_case : (degree : ℕ) (number : LineNumber) (numbers : List LineNumber) (taken : Option Taken) (a b : Bool)
+    → nat_le number.value degree ≡ a → (degree == 0) ≡ b
     → number.value < bound → Small numbers → IsSum (degree - number.value) taken
     → IsSum degree (cond a (before_taken number taken) (cond b (Some (record { weights = []; rest = number ∷ numbers })) None))
 sum_case degree number numbers taken true b t u lt h k = sum_before degree number taken (grind (arith, nat_tests, t)) lt k
@@ -129,7 +134,8 @@ take_sum degree [] h = choose (degree == 0) refl
     choose true e = record { sum = grind (arith, nat_tests, e); small = tt; small_rest = tt; positive = tt }
     choose false e = tt
 take_sum degree (number ∷ numbers) h =
-    sum_case degree number numbers (take_weights (degree - number.value) numbers) (nat_le number.value degree) (degree == 0) refl refl h.0 h.1
+    sum_case degree number numbers (take_weights (degree - number.value) numbers) (nat_le number.value degree)
+    (degree == 0) refl refl h.0 h.1
     (take_sum (degree - number.value) numbers h.1)
 
 -- systems whose weights sum to their degrees
@@ -166,17 +172,20 @@ systems_right (suc most) (degree ∷ numbers) h p =
 
 -- as many weights as the first system
 same_length : (count : ℕ) (system : PlacedSystem) (systems : List PlacedSystem) (b : Bool) → (length system.weights == count) ≡ b
-    → cond b (other_length count systems) (Some system.degree.at) ≡ None → (length system.weights ≡ count) × (other_length count systems ≡ None)
+    → cond b (other_length count systems) (Some system.degree.at) ≡ None → (length system.weights ≡ count)
+    × (other_length count systems ≡ None)
 same_length count system systems true t h = (grind (arith, nat_tests, t), h)
 same_length count system systems false t h = cc
 
-same_lengths : (count : ℕ) (systems : List PlacedSystem) → other_length count systems ≡ None → AllByRecursion (λ (s : PlacedSystem). length s.weights ≡ count) systems
+same_lengths : (count : ℕ) (systems : List PlacedSystem) → other_length count systems ≡ None
+    → AllByRecursion (λ (s : PlacedSystem). length s.weights ≡ count) systems
 same_lengths count [] e = tt
 same_lengths count (system ∷ systems) e =
     let both = same_length count system systems (length system.weights == count) refl e in (both.0, same_lengths count systems both.1)
 
 -- what the systems are, one by one
-summed_all : (count : ℕ) (systems : List PlacedSystem) → AllByRecursion IsRight systems → AllByRecursion (λ (s : PlacedSystem). length s.weights ≡ count) systems
+summed_all : (count : ℕ) (systems : List PlacedSystem) → AllByRecursion IsRight systems
+    → AllByRecursion (λ (s : PlacedSystem). length s.weights ≡ count) systems
     → AllByRecursion (IsSummed count) (map weighted_of systems)
 summed_all count [] r l = tt
 summed_all count (system ∷ systems) r l =
@@ -189,7 +198,10 @@ small_values (number ∷ numbers) h = (h.0, small_values numbers h.1)
 small_all : (systems : List PlacedSystem) → AllByRecursion IsRight systems → AllByRecursion HasSmallNumbers (map weighted_of systems)
 small_all [] r = tt
 small_all (system ∷ systems) r = (
-  record { degree_small = r.0.degree_small; weights_small = All-from_recursion (λ (w : ℕ). w < bound) (values system.weights) (small_values system.weights r.0.small) },
+  record {
+    degree_small = r.0.degree_small;
+    weights_small = All-from_recursion (λ (w : ℕ). w < bound) (values system.weights) (small_values system.weights r.0.small);
+  },
   small_all systems r.1,
 )
 
@@ -207,7 +219,8 @@ record NonzeroAt (systems : List PlacedSystem) (place : ℕ) : Type 0 where
   positive : 1 ≤ weight_at place system.weights
 
 nonzero_case : (place : ℕ) (system : PlacedSystem) (systems : List PlacedSystem) (b : Bool) → (weight_at place system.weights == 0) ≡ b
-    → (b && is_zero_column place systems) ≡ false → (is_zero_column place systems ≡ false → NonzeroAt systems place) → NonzeroAt (system ∷ systems) place
+    → (b && is_zero_column place systems) ≡ false → (is_zero_column place systems ≡ false → NonzeroAt systems place)
+    → NonzeroAt (system ∷ systems) place
 nonzero_case place system systems true t e later =
     let h = later e in
     record { index = suc h.index; system = h.system; inside = omega (arith, h.inside); is = h.is; positive = h.positive }
@@ -216,14 +229,17 @@ nonzero_case place system systems false t e later =
 
 nonzero_at : (place : ℕ) (systems : List PlacedSystem) → is_zero_column place systems ≡ false → NonzeroAt systems place
 nonzero_at place [] e = cc
-nonzero_at place (system ∷ systems) e = nonzero_case place system systems (weight_at place system.weights == 0) refl e (nonzero_at place systems)
+nonzero_at place (system ∷ systems) e = nonzero_case place system systems (weight_at place system.weights == 0) refl e
+    (nonzero_at place systems)
 
 not_zero : (place at : ℕ) (numbers : List LineNumber) (systems : List PlacedSystem) (b : Bool) → is_zero_column place systems ≡ b
-    → cond b (Some at) (zero_column (place + 1) numbers systems) ≡ None → (is_zero_column place systems ≡ false) × (zero_column (place + 1) numbers systems ≡ None)
+    → cond b (Some at) (zero_column (place + 1) numbers systems) ≡ None → (is_zero_column place systems ≡ false)
+    × (zero_column (place + 1) numbers systems ≡ None)
 not_zero place at numbers systems true t e = cc
 not_zero place at numbers systems false t e = (t, e)
 
-no_zero_column : (place k : ℕ) (numbers : List LineNumber) (systems : List PlacedSystem) → zero_column place numbers systems ≡ None → k < length numbers
+no_zero_column : (place k : ℕ) (numbers : List LineNumber) (systems : List PlacedSystem) → zero_column place numbers systems ≡ None
+    → k < length numbers
     → is_zero_column (place + k) systems ≡ false
 no_zero_column place k [] systems e lt = absurd (omega (arith, lt))
 no_zero_column place zero (number ∷ numbers) systems e lt =
@@ -240,10 +256,15 @@ used_at : (first : PlacedSystem) (systems : List PlacedSystem) → zero_column 0
 used_at first systems e place lt =
     let within : place < length first.weights = subst (λ (n : ℕ). place < n) (value_count first.weights) lt in
     let same : 0 + place ≡ place = omega arith in
-    let h = nonzero_at place (first ∷ systems) (ap (λ (n : ℕ). is_zero_column n (first ∷ systems)) (sym same) ∙ no_zero_column 0 place first.weights (first ∷ systems) e within) in
+    let h = nonzero_at place (first ∷ systems) (ap (λ (n : ℕ). is_zero_column n (first ∷ systems)) (sym same)
+    ∙ no_zero_column 0 place first.weights (first ∷ systems) e within) in
     record {
       system = weighted_of h.system;
-      member = (h.index, subst (λ (n : ℕ). h.index < n) (sym (length-map (first ∷ systems) weighted_of)) h.inside, h.is (weighted_of h.system));
+      member = (
+        h.index,
+        subst (λ (n : ℕ). h.index < n) (sym (length-map (first ∷ systems) weighted_of)) h.inside,
+        h.is (weighted_of h.system),
+      );
       positive = subst (λ (n : ℕ). 1 ≤ n) (sym (weight_is place h.system.weights)) h.positive;
     }
 
@@ -254,7 +275,8 @@ IsRightNext (Given item end) = IsItem item
 IsRightNext (Faulty fault) = Unit {0}
 
 weights_case : (first : PlacedSystem) (systems : List PlacedSystem) (end : ℕ) (other column : Option ℕ)
-    → other_length (length first.weights) systems ≡ other → zero_column 0 first.weights (first ∷ systems) ≡ column → AllByRecursion IsRight (first ∷ systems)
+    → other_length (length first.weights) systems ≡ other → zero_column 0 first.weights (first ∷ systems) ≡ column
+    → AllByRecursion IsRight (first ∷ systems)
     → IsRightNext (elim other as (λ _. Next) [
       | Some at ↦ Faulty (fault_at Lengths at end)
       | None ↦ elim column as (λ _. Next) [
@@ -295,7 +317,8 @@ IsRightMatrix count (AllEntries entries after) = IsCounted count entries
 IsRightMatrix count (FaultyMatrix fault) = Unit {0}
 IsRightMatrix count MissingEntries = Unit {0}
 
-matrix_before : (count : ℕ) (entry : ℤ) (rest : MatrixRead) → nat_abs entry < bound → IsRightMatrix count rest → IsRightMatrix (suc count) (before_entries entry rest)
+matrix_before : (count : ℕ) (entry : ℤ) (rest : MatrixRead) → nat_abs entry < bound → IsRightMatrix count rest
+    → IsRightMatrix (suc count) (before_entries entry rest)
 matrix_before count entry (AllEntries entries after) lt h = record { counted = omega (arith, h.counted); small = (lt, h.small) }
 matrix_before count entry (FaultyMatrix fault) lt h = tt
 matrix_before count entry MissingEntries lt h = tt
@@ -315,7 +338,8 @@ matrix_right text (suc count) after (Token token ∷ pieces) =
 matrix_right text (suc count) after (Wrong at ∷ pieces) = tt
 matrix_right text (suc count) after (LineEnd at ∷ pieces) = matrix_right text (suc count) after pieces
 
-matrix_item_right : (text : List ℕ) (at lines columns : ℕ) (read : MatrixRead) → lines < bound → columns < bound → IsRightMatrix (lines * columns) read
+matrix_item_right : (text : List ℕ) (at lines columns : ℕ) (read : MatrixRead) → lines < bound → columns < bound
+    → IsRightMatrix (lines * columns) read
     → IsRightNext (matrix_item text at lines columns read)
 matrix_item_right text at lines columns (AllEntries entries after) l c h = record {
   count = h.counted;
@@ -326,16 +350,23 @@ matrix_item_right text at lines columns (AllEntries entries after) l c h = recor
 matrix_item_right text at lines columns (FaultyMatrix fault) l c h = tt
 matrix_item_right text at lines columns MissingEntries l c h = tt
 
-header_right : (text : List ℕ) (end : ℕ) (lines columns : LineNumber) (b : Bool) → lines.value * columns.value == 0 ≡ b → lines.value < bound → columns.value < bound
+header_right : (text : List ℕ) (end : ℕ) (lines columns : LineNumber) (b : Bool) → lines.value * columns.value == 0 ≡ b
+    → lines.value < bound → columns.value < bound
     → IsRightNext (cond b (Given (ListedPoints lines.value columns.value []) end) (matrix_item text lines.at lines.value columns.value
     (matrix_read text (lines.value * columns.value) end (pieces_of end (drop end text)))))
 header_right text end lines columns true e l c =
-    record { count = no_entries (lines.value * columns.value) e; lines_small = l; columns_small = c; entries_small = All-from_recursion (λ (e : ℤ). nat_abs e < bound) [] tt }
+    record {
+      count = no_entries (lines.value * columns.value) e;
+      lines_small = l;
+      columns_small = c;
+      entries_small = All-from_recursion (λ (e : ℤ). nat_abs e < bound) [] tt;
+    }
   where
     no_entries : (count : ℕ) → (count == 0) ≡ true → 0 ≡ count
     no_entries count t = grind (arith, nat_tests, t)
 header_right text end lines columns false e l c =
-    matrix_item_right text lines.at lines.value columns.value (matrix_read text (lines.value * columns.value) end (pieces_of end (drop end text))) l c
+    matrix_item_right text lines.at lines.value columns.value
+    (matrix_read text (lines.value * columns.value) end (pieces_of end (drop end text))) l c
     (matrix_right text (lines.value * columns.value) end (pieces_of end (drop end text)))
 
 weights_right : (end : ℕ) (degree : LineNumber) (numbers : List LineNumber) (b : Bool) → (degree.value == 0) ≡ b → Small (degree ∷ numbers)
@@ -358,9 +389,11 @@ line_item_right text end (LeadingNumbers numbers) h = numbers_right text end num
 pieces_right : (text : List ℕ) (pieces : List Piece) → IsRightNext (pieces_item text pieces)
 pieces_right text [] = tt
 pieces_right text (Token token ∷ pieces) =
-    line_item_right text (first_line_end (length text) pieces) (line_read text true (Token token ∷ pieces)) (small_line text true (Token token ∷ pieces))
+    line_item_right text (first_line_end (length text) pieces) (line_read text true (Token token ∷ pieces))
+    (small_line text true (Token token ∷ pieces))
 pieces_right text (Wrong at ∷ pieces) =
-    line_item_right text (first_line_end (length text) pieces) (line_read text true (Wrong at ∷ pieces)) (small_line text true (Wrong at ∷ pieces))
+    line_item_right text (first_line_end (length text) pieces) (line_read text true (Wrong at ∷ pieces))
+    (small_line text true (Wrong at ∷ pieces))
 pieces_right text (LineEnd at ∷ pieces) = pieces_right text pieces
 
 pub items_are_items : ItemsAreItems

@@ -20,7 +20,8 @@ keeps_before number numbers None h = tt
 keeps_before number numbers (Some taken) h = ap (λ (ns : List LineNumber). number ∷ ns) h
 
 keeps_case : (number : LineNumber) (numbers : List LineNumber) (taken : Option Taken) (a b : Bool) → KeepsTaken numbers taken
-    → KeepsTaken (number ∷ numbers) (cond a (before_taken number taken) (cond b (Some (record { weights = []; rest = number ∷ numbers })) None))
+    → KeepsTaken (number ∷ numbers)
+    (cond a (before_taken number taken) (cond b (Some (record { weights = []; rest = number ∷ numbers })) None))
 keeps_case number numbers taken true b h = keeps_before number numbers taken h
 keeps_case number numbers taken false true h = refl
 keeps_case number numbers taken false false h = tt
@@ -37,7 +38,8 @@ abbrev KeepsRead : List LineNumber → SystemsRead → Type 0
 KeepsRead numbers (WrongSum at) = Unit {0}
 KeepsRead numbers (Summed systems) = numbers_of systems ≡ numbers
 
-read_before : (degree : LineNumber) (weights rest numbers : List LineNumber) (read : SystemsRead) → weights ++ rest ≡ numbers → KeepsRead rest read
+read_before : (degree : LineNumber) (weights rest numbers : List LineNumber) (read : SystemsRead) → weights ++ rest ≡ numbers
+    → KeepsRead rest read
     → KeepsRead (degree ∷ numbers) (before_systems (record { degree = degree; weights = weights }) read)
 read_before degree weights rest numbers (WrongSum at) e h = tt
 read_before degree weights rest numbers (Summed systems) e h =
@@ -46,7 +48,8 @@ read_before degree weights rest numbers (Summed systems) e h =
 fewer : (weights rest numbers : List LineNumber) → weights ++ rest ≡ numbers → length rest ≤ length numbers
 fewer weights rest numbers e = subst (λ (ns : List LineNumber). length rest ≤ length ns) e (omega (arith, length-append weights rest))
 
-read_case : (degree : LineNumber) (numbers : List LineNumber) (taken : Option Taken) (read : List LineNumber → SystemsRead) → KeepsTaken numbers taken
+read_case : (degree : LineNumber) (numbers : List LineNumber) (taken : Option Taken) (read : List LineNumber → SystemsRead)
+    → KeepsTaken numbers taken
     → ((rest : List LineNumber) → length rest ≤ length numbers → KeepsRead rest (read rest))
     → KeepsRead (degree ∷ numbers) (elim taken as (λ _. SystemsRead) [
       | None ↦ WrongSum degree.at
@@ -86,7 +89,8 @@ KeepsNext numbers (Given (ListedWeights systems) end) = numbers_in systems ≡ n
 KeepsNext numbers (Given (ListedPoints lines columns entries) end) = Unit {0}
 KeepsNext numbers (Faulty fault) = Unit {0}
 
-keeps_summed : (numbers : List ℕ) (systems : List PlacedSystem) (end : ℕ) (other column : Option ℕ) → numbers_in (map weighted_of systems) ≡ numbers
+keeps_summed : (numbers : List ℕ) (systems : List PlacedSystem) (end : ℕ) (other column : Option ℕ)
+    → numbers_in (map weighted_of systems) ≡ numbers
     → KeepsNext numbers (elim other as (λ _. Next) [
       | Some at ↦ Faulty (fault_at Lengths at end)
       | None ↦ elim column as (λ _. Next) [
@@ -98,11 +102,13 @@ keeps_summed numbers systems end (Some at) column h = tt
 keeps_summed numbers systems end None (Some at) h = tt
 keeps_summed numbers systems end None None h = h
 
-keeps_item : (numbers : List LineNumber) (read : SystemsRead) (end : ℕ) → KeepsRead numbers read → KeepsNext (values numbers) (systems_item read end)
+keeps_item : (numbers : List LineNumber) (read : SystemsRead) (end : ℕ) → KeepsRead numbers read
+    → KeepsNext (values numbers) (systems_item read end)
 keeps_item numbers (WrongSum at) end h = tt
 keeps_item numbers (Summed []) end h = tt
 keeps_item numbers (Summed (first ∷ systems)) end h =
-    keeps_summed (values numbers) (first ∷ systems) end (other_length (length first.weights) systems) (zero_column 0 first.weights (first ∷ systems))
+    keeps_summed (values numbers) (first ∷ systems) end (other_length (length first.weights) systems)
+    (zero_column 0 first.weights (first ∷ systems))
     (numbers_values (first ∷ systems) ∙ ap values h)
 
 pub items_keep : ItemsKeepNumbers

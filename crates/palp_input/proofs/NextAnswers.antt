@@ -69,7 +69,8 @@ line_settled_item first more item end some inside e line = cases (cases_eq end (
     cases : ((end ≡ length first) ⊎ (end ≢ length first)) → next_of (first ++ more) ≡ Given item end
     cases (inl all) = whole_settled first more (feed_last first (subst (λ (n : ℕ). 1 ≤ n) all some)
         (subst (λ (n : ℕ). slice_index first (n - 1) ≡ line_feed) all line)) item end e
-    cases (inr less) = settled first more (subst (λ (n : Next). EndsBefore (length first) n) (sym e) (item_before (length first) item end (omega arith))) ∙ e
+    cases (inr less) = settled first more
+        (subst (λ (n : Next). EndsBefore (length first) n) (sym e) (item_before (length first) item end (omega arith))) ∙ e
 
 -- nothing that ends early enough stands in a beginning that is longer: nor does it in the text
 pub beyond_settled : (room : ℕ) (first more : List ℕ) → room < length first → ends_within room (next_of first) ≡ Beyond
@@ -106,7 +107,8 @@ pub record MoreLeft (left bytes : List ℕ) (left_now : Option (List ℕ)) : Typ
   pub is : left ≡ bytes ++ more
   pub told : left_now ≡ Some more
 
-pub more_left : (source now : SourceState) (left bytes : List ℕ) → source.left ≡ Some left → Passes source now bytes → MoreLeft left bytes now.left
+pub more_left : (source now : SourceState) (left bytes : List ℕ) → source.left ≡ Some left → Passes source now bytes
+    → MoreLeft left bytes now.left
 more_left source now left bytes tells passes =
     let next = Passes-told source now left bytes tells passes in record { more = next.0; is = next.2; told = next.1 }
 
@@ -123,8 +125,10 @@ pub rest_is : (held bytes left more : List ℕ) → left ≡ bytes ++ more → h
 rest_is held bytes left more e = ap (λ (xs : List ℕ). held ++ xs) e ∙ sym (append_assoc held bytes more)
 
 -- an item or a fault that ends early enough in the bytes held is the first one of the rest
-next_is : (passed : ℕ) (held more : List ℕ) (source : SourceState) (ended : Bool) (next : Next) → source.left ≡ Some more → next_of held ≡ next
-    → Stopped passed held source ended → (passed + length held ≡ most_bytes + 1 → EndsBefore (length held) next) → next_of (held ++ more) ≡ next
+next_is : (passed : ℕ) (held more : List ℕ) (source : SourceState) (ended : Bool) (next : Next) → source.left ≡ Some more
+    → next_of held ≡ next
+    → Stopped passed held source ended → (passed + length held ≡ most_bytes + 1 → EndsBefore (length held) next)
+    → next_of (held ++ more) ≡ next
 next_is passed held more source ended next told e (inl h) early =
     ap (λ (xs : List ℕ). next_of (held ++ xs)) (nothing_more more source.left told h.1.nothing_left) ∙ ap next_of (append-nil held) ∙ e
 next_is passed held more source ended next told e (inr all) early =
@@ -141,7 +145,8 @@ module _ (before : ReaderState) (bytes : List ℕ) (source source_now : SourceSt
   item_told item end le e None tells = tt
   item_told item end le e (Some left) tells =
       let m = more_left source source_now left bytes tells passes in
-      let early : before.bytes + length (before.held ++ bytes) ≡ most_bytes + 1 → EndsBefore (length (before.held ++ bytes)) (Given item end) =
+      let early : before.bytes + length (before.held ++ bytes) ≡ most_bytes + 1
+      → EndsBefore (length (before.held ++ bytes)) (Given item end) =
       λ all. item_before (length (before.held ++ bytes)) item end (earlier before.bytes end (length (before.held ++ bytes)) le all) in
       known_item (most_bytes - before.bytes) (before.held ++ left) item end
       (ap next_of (rest_is before.held bytes left m.more m.is)
@@ -157,7 +162,8 @@ module _ (before : ReaderState) (bytes : List ℕ) (source source_now : SourceSt
   fault_told fault le e None tells = tt
   fault_told fault le e (Some left) tells =
       let m = more_left source source_now left bytes tells passes in
-      let early : before.bytes + length (before.held ++ bytes) ≡ most_bytes + 1 → EndsBefore (length (before.held ++ bytes)) (Faulty fault) =
+      let early : before.bytes + length (before.held ++ bytes) ≡ most_bytes + 1
+      → EndsBefore (length (before.held ++ bytes)) (Faulty fault) =
       λ all. fault_before (length (before.held ++ bytes)) fault (earlier before.bytes fault.end (length (before.held ++ bytes)) le all) in
       known_fault (most_bytes - before.bytes) (before.held ++ left) fault
       (ap next_of (rest_is before.held bytes left m.more m.is)
@@ -179,7 +185,13 @@ held_most position bytes lines items live ended now h e =
 -- an item of the bytes held and taken
 gives_item : (before now : ReaderState) (bytes held : List ℕ) (source : SourceState) (item : Item) (end : ℕ)
     → before.held ++ bytes ≡ held → 1 ≤ end → end ≤ length held → before.bytes + end ≤ most_bytes → next_of held ≡ Given (listed item) end
-    → now ≡ record { bytes = before.bytes + end; lines = before.lines + line_feeds (take end held); held = drop end held; live = true; ended = now.ended }
+    → now ≡ record {
+      bytes = before.bytes + end;
+      lines = before.lines + line_feeds (take end held);
+      held = drop end held;
+      live = true;
+      ended = now.ended;
+    }
     → IsNextItem before source.left (Known (Given (listed item) end)) → (slice_index held (end - 1) ≢ line_feed → now.ended ≡ true)
     → GivesItem before now bytes source item
 gives_item before now bytes held source item end e some within most first parts next unless = record {
@@ -188,7 +200,13 @@ gives_item before now bytes held source item end e some within most first parts 
   within = subst (λ (xs : List ℕ). end ≤ length xs) (sym e) within;
   most = most;
   is_first = ap next_of e ∙ first;
-  parts = parts ∙ ap (λ (xs : List ℕ). record { bytes = before.bytes + end; lines = before.lines + line_feeds (take end xs); held = drop end xs; live = true; ended = now.ended }) (sym e);
+  parts = parts ∙ ap (λ (xs : List ℕ). record {
+    bytes = before.bytes + end;
+    lines = before.lines + line_feeds (take end xs);
+    held = drop end xs;
+    live = true;
+    ended = now.ended;
+  }) (sym e);
   is_next = next;
   ended_unless = λ no_end. unless (λ line_end. no_end (ap (λ (xs : List ℕ). slice_index xs (end - 1)) e ∙ line_end));
 }
@@ -210,15 +228,34 @@ at_least n = omega arith
 
 -- the parts after an item, with the reader's own flag
 own_flag : (before now : ReaderState) (end : ℕ) (held : List ℕ)
-    → now ≡ record { bytes = before.bytes + end; lines = before.lines + line_feeds (take end held); held = drop end held; live = true; ended = before.ended }
-    → now ≡ record { bytes = before.bytes + end; lines = before.lines + line_feeds (take end held); held = drop end held; live = true; ended = now.ended }
+    → now ≡ record {
+      bytes = before.bytes + end;
+      lines = before.lines + line_feeds (take end held);
+      held = drop end held;
+      live = true;
+      ended = before.ended;
+    }
+    → now ≡ record {
+      bytes = before.bytes + end;
+      lines = before.lines + line_feeds (take end held);
+      held = drop end held;
+      live = true;
+      ended = now.ended;
+    }
 own_flag before now end held e =
-    e ∙ ap (λ (b : Bool). record { bytes = before.bytes + end; lines = before.lines + line_feeds (take end held); held = drop end held; live = true; ended = b })
+    e ∙ ap (λ (b : Bool). record {
+      bytes = before.bytes + end;
+      lines = before.lines + line_feeds (take end held);
+      held = drop end held;
+      live = true;
+      ended = b;
+    })
     (sym (ap (λ (s : ReaderState). s.ended) e))
 
 module _ (before now : ReaderState) (source : SourceState) (handed : IsHanded before source)
     (most : before.bytes + length before.held ≤ most_bytes + 1) where
-  pub held_answer : (item : Item) → IsHeldItem (record before { live = false }) now item → NextMeans (Ok (Some item)) before now source source
+  pub held_answer : (item : Item) → IsHeldItem (record before { live = false }) now item
+      → NextMeans (Ok (Some item)) before now source source
   held_answer item h = record {
     bytes = [];
     passes = Passes-none source;
@@ -234,7 +271,8 @@ module _ (before now : ReaderState) (source : SourceState) (handed : IsHanded be
   }
 
   -- no memory for the item
-  pub held_fault : (fault : NextFault) → HeldMeans (Err fault) (record before { live = false }) now → NextMeans (Err fault) before now source source
+  pub held_fault : (fault : NextFault) → HeldMeans (Err fault) (record before { live = false }) now
+      → NextMeans (Err fault) before now source source
   held_fault (Text fault) h = absurd h
   held_fault TooLong h = absurd h
   held_fault Read h = absurd h
@@ -277,8 +315,10 @@ module _ (before : ReaderState) (bytes : List ℕ) (source source_now : SourceSt
   last_ended end le (inl all) no_end = (has_ended (subst (λ (n : ℕ). before.bytes + n ≤ most_bytes) all le)).0
   last_ended end le (inr line) no_end = absurd (no_end line)
 
-  end_taken : before.bytes + length (before.held ++ bytes) ≤ most_bytes → next_of (before.held ++ bytes) ≡ Nothing → IsNextTaken before bytes (Known Nothing)
-  end_taken le e = known_text (most_bytes - before.bytes) (before.held ++ bytes) (room_of before.bytes (length (before.held ++ bytes)) le) ∙ ap Known e
+  end_taken : before.bytes + length (before.held ++ bytes) ≤ most_bytes → next_of (before.held ++ bytes) ≡ Nothing
+      → IsNextTaken before bytes (Known Nothing)
+  end_taken le e = known_text (most_bytes - before.bytes) (before.held ++ bytes) (room_of before.bytes (length (before.held ++ bytes)) le)
+      ∙ ap Known e
 
   end_told : before.bytes + length (before.held ++ bytes) ≤ most_bytes → next_of (before.held ++ bytes) ≡ Nothing
       → (l : Option (List ℕ)) → source.left ≡ l → IsNextItem before l (Known Nothing)
@@ -286,7 +326,8 @@ module _ (before : ReaderState) (bytes : List ℕ) (source source_now : SourceSt
   end_told le e (Some xs) tells =
       let m = more_left source source_now xs bytes tells passes in
       let all : before.held ++ xs ≡ before.held ++ bytes = rest_is before.held bytes xs m.more m.is
-      ∙ ap (λ (ys : List ℕ). (before.held ++ bytes) ++ ys) (nothing_more m.more source_now.left m.told (has_ended le).1.nothing_left) ∙ append-nil (before.held ++ bytes) in
+      ∙ ap (λ (ys : List ℕ). (before.held ++ bytes) ++ ys) (nothing_more m.more source_now.left m.told (has_ended le).1.nothing_left)
+      ∙ append-nil (before.held ++ bytes) in
       ap (next_within (most_bytes - before.bytes)) all ∙ end_taken le e
 
   fault_told_at : (fault : TextFault) (item_fault : ItemFault) → next_of (before.held ++ bytes) ≡ Faulty item_fault
@@ -297,11 +338,14 @@ module _ (before : ReaderState) (bytes : List ℕ) (source source_now : SourceSt
       let m = more_left source source_now xs bytes tells passes in
       place ∙ same_place before.lines before.held bytes xs m.more item_fault m.is (fault_place (before.held ++ bytes) item_fault e)
 
-  beyond_taken : most_bytes < before.bytes + length (before.held ++ bytes) → ends_within (most_bytes - before.bytes) (next_of (before.held ++ bytes)) ≡ Beyond
+  beyond_taken : most_bytes < before.bytes + length (before.held ++ bytes)
+      → ends_within (most_bytes - before.bytes) (next_of (before.held ++ bytes)) ≡ Beyond
       → IsNextTaken before bytes Beyond
-  beyond_taken lt e = long_text (most_bytes - before.bytes) (before.held ++ bytes) (room_less before.bytes (length (before.held ++ bytes)) passed_most lt) ∙ e
+  beyond_taken lt e = long_text (most_bytes - before.bytes) (before.held ++ bytes)
+      (room_less before.bytes (length (before.held ++ bytes)) passed_most lt) ∙ e
 
-  beyond_told : most_bytes < before.bytes + length (before.held ++ bytes) → ends_within (most_bytes - before.bytes) (next_of (before.held ++ bytes)) ≡ Beyond
+  beyond_told : most_bytes < before.bytes + length (before.held ++ bytes)
+      → ends_within (most_bytes - before.bytes) (next_of (before.held ++ bytes)) ≡ Beyond
       → (l : Option (List ℕ)) → source.left ≡ l → IsNextItem before l Beyond
   beyond_told lt e None tells = tt
   beyond_told lt e (Some xs) tells =
@@ -328,7 +372,8 @@ module _ (before : ReaderState) (bytes : List ℕ) (source source_now : SourceSt
   }
   last_means (Err (Text fault)) now h = record {
     item_fault = h.item_fault;
-    of_taken = known_fault (most_bytes - before.bytes) (before.held ++ bytes) h.item_fault h.is_next (room_of before.bytes h.item_fault.end h.within);
+    of_taken = known_fault (most_bytes - before.bytes) (before.held ++ bytes) h.item_fault h.is_next
+        (room_of before.bytes h.item_fault.end h.within);
     place_taken = h.place;
     is_next = fault_next before bytes source source_now ended stopped passes h.item_fault h.within h.is_next;
     place = fault_told_at fault h.item_fault h.is_next h.place source.left refl;

@@ -60,7 +60,8 @@ matrix_behind-missing [] = refl
 matrix_behind-missing (first ∷ entries) = ap (before_entries first) (matrix_behind-missing entries)
 
 -- the numbers so far, with one more
-pub line_more : (total : LineRead) (numbers now : List LineNumber) (number : LineNumber) (here rest : Bool → LineRead) (count count_now : ℕ) (first : Bool)
+pub line_more : (total : LineRead) (numbers now : List LineNumber) (number : LineNumber) (here rest : Bool → LineRead) (count count_now : ℕ)
+    (first : Bool)
     → total ≡ line_behind numbers (here (count == 0)) → first ≡ (count == 0) → here first ≡ before_line number (rest false)
     → now ≡ numbers ++ number ∷ [] → count_now ≡ count + 1 → total ≡ line_behind now (rest (count_now == 0))
 line_more total numbers now number here rest count count_now first h f e n c =
@@ -94,7 +95,8 @@ matrix_read-line_ends text count after (LineEnd at ∷ pieces) = matrix_read-lin
 pub word_entry : (text : List ℕ) (place : ℕ) (pieces : List Piece) (token : Span) (part : Part)
     → without_line_ends pieces ≡ Token token ∷ pieces_of token.end (drop token.end text)
     → IsWithin place (length text) token.at token.end
-    → ((rest : MatrixRead) → entry_in_front part rest ≡ matrix_token token.at token.end (numeral_of (slice_range text token.at token.end)) rest)
+    → ((rest : MatrixRead) → entry_in_front part rest ≡ matrix_token token.at token.end (numeral_of (slice_range text token.at token.end))
+    rest)
     → EntryEndsAt part token.end → EntryMeans text place pieces part
 word_entry text place pieces token (Entry entry end) is within means ends = record {
   reads = λ count after. matrix_read-line_ends text count after pieces ∙ ap (matrix_read text (suc count) after) is

@@ -88,9 +88,11 @@ reading_step bytes lines rest next e = plus_one ∙ ap (λ (n : NextWithin). rea
 pub goes_on : GoesOn
 goes_on bytes lines rest item end e =
     let some = item_some rest item end (known_first (most_bytes - bytes) rest (Given item end) e) in
-    let less = subst (λ (n : ℕ). n < length rest) (sym (length-drop end rest)) (fewer (length rest) end (length rest) some.0 some.1 (omega arith)) in
+    let less = subst (λ (n : ℕ). n < length rest) (sym (length-drop end rest))
+    (fewer (length rest) end (length rest) some.0 some.1 (omega arith)) in
     reading_step bytes lines rest (Known (Given item end)) e
-    ∙ ap (with_item item (bytes + end)) (has_all_items (length rest) (bytes + end) (lines + line_feeds (take end rest)) (drop end rest) less)
+    ∙ ap (with_item item (bytes + end)) (has_all_items (length rest) (bytes + end) (lines + line_feeds (take end rest))
+    (drop end rest) less)
 
 pub reading_ends : Ends
 reading_ends bytes lines rest e = reading_step bytes lines rest (Known Nothing) e
@@ -109,9 +111,11 @@ reads_item : (before now : ReaderState) (bytes more : List ℕ) (source : Source
 reads_item before now bytes more source item gives next =
     let rest = before.held ++ (bytes ++ more) in
     let front : take gives.end rest ≡ take gives.end (before.held ++ bytes) =
-    ap (take gives.end) (rest_is before.held bytes (bytes ++ more) more refl) ∙ take-append-le gives.end (before.held ++ bytes) more gives.within in
+    ap (take gives.end) (rest_is before.held bytes (bytes ++ more) more refl)
+    ∙ take-append-le gives.end (before.held ++ bytes) more gives.within in
     let back : drop gives.end rest ≡ drop gives.end (before.held ++ bytes) ++ more =
-    ap (drop gives.end) (rest_is before.held bytes (bytes ++ more) more refl) ∙ drop-append-le gives.end (before.held ++ bytes) more gives.within in
+    ap (drop gives.end) (rest_is before.held bytes (bytes ++ more) more refl)
+    ∙ drop-append-le gives.end (before.held ++ bytes) more gives.within in
     goes_on before.bytes before.lines rest (listed item) gives.end next
     ∙ ap (λ (xs : List ℕ). with_item (listed item) (before.bytes + gives.end)
     (reading_behind (before.bytes + gives.end) (before.lines + line_feeds xs) (drop gives.end rest))) front
@@ -125,7 +129,8 @@ told_next : (before : ReaderState) (left : List ℕ) (l : Option (List ℕ)) (ne
 told_next before left l next e h = subst (λ (o : Option (List ℕ)). IsNextItem before o next) e h
 
 told_place : (before : ReaderState) (left : List ℕ) (l : Option (List ℕ)) (fault : TextFault) (item_fault : ItemFault) → l ≡ Some left
-    → IfSome l (λ xs. fault ≡ text_fault before.lines (before.held ++ xs) item_fault) → fault ≡ text_fault before.lines (before.held ++ left) item_fault
+    → IfSome l (λ xs. fault ≡ text_fault before.lines (before.held ++ xs) item_fault)
+    → fault ≡ text_fault before.lines (before.held ++ left) item_fault
 told_place before left l fault item_fault e h =
     subst (λ (o : Option (List ℕ)). IfSome o (λ xs. fault ≡ text_fault before.lines (before.held ++ xs) item_fault)) e h
 
@@ -136,26 +141,31 @@ calls_read (Ok (Some item)) before now left source source_now tells means =
       more = m.more;
       told = m.told;
       reads = ap (reading_of before) m.is ∙ reads_item before now means.bytes m.more source item means.answer
-          (ap (λ (xs : List ℕ). next_within (most_bytes - before.bytes) (before.held ++ xs)) (sym m.is) ∙ told_next before left source.left _ tells means.answer.is_next);
+          (ap (λ (xs : List ℕ). next_within (most_bytes - before.bytes) (before.held ++ xs)) (sym m.is)
+          ∙ told_next before left source.left _ tells means.answer.is_next);
     }
 calls_read (Ok None) before now left source source_now tells means =
-    reading_ends before.bytes before.lines (before.held ++ left) (told_next before left source.left (Known Nothing) tells means.answer.is_next)
+    reading_ends before.bytes before.lines (before.held ++ left)
+    (told_next before left source.left (Known Nothing) tells means.answer.is_next)
 calls_read (Err (Text fault)) before now left source source_now tells means =
     reading_faulty before.bytes before.lines (before.held ++ left) means.answer.item_fault
     (told_next before left source.left (Known (Faulty means.answer.item_fault)) tells means.answer.is_next)
-    ∙ ap (λ (fault : TextFault). no_more (FaultEnd fault)) (sym (told_place before left source.left fault means.answer.item_fault tells means.answer.place))
+    ∙ ap (λ (fault : TextFault). no_more (FaultEnd fault))
+    (sym (told_place before left source.left fault means.answer.item_fault tells means.answer.place))
 calls_read (Err TooLong) before now left source source_now tells means =
     reading_too_long before.bytes before.lines (before.held ++ left) (told_next before left source.left Beyond tells means.answer.is_next)
 calls_read (Err Read) before now left source source_now tells means = tt
 calls_read (Err NoMemory) before now left source source_now tells means = tt
 
 -- an item of the bytes held and taken is the first one, whatever comes behind them, unless the source has ended
-item_stays : (before now : ReaderState) (bytes more : List ℕ) (source : SourceState) (item : Item) (g : GivesItem before now bytes source item)
+item_stays : (before now : ReaderState) (bytes more : List ℕ) (source : SourceState) (item : Item)
+    (g : GivesItem before now bytes source item)
     → (now.ended ≡ true → more ≡ [])
     → next_within (most_bytes - before.bytes) (before.held ++ (bytes ++ more)) ≡ Known (Given (listed item) g.end)
 item_stays before now bytes more source item g none =
     known_item (most_bytes - before.bytes) (before.held ++ (bytes ++ more)) (listed item) g.end
-    (ap next_of (rest_is before.held bytes (bytes ++ more) more refl) ∙ cases (cases_eq (slice_index (before.held ++ bytes) (g.end - 1)) line_feed))
+    (ap next_of (rest_is before.held bytes (bytes ++ more) more refl)
+    ∙ cases (cases_eq (slice_index (before.held ++ bytes) (g.end - 1)) line_feed))
     (omega (arith, g.most))
   where
     cases : ((slice_index (before.held ++ bytes) (g.end - 1) ≡ line_feed) ⊎ (slice_index (before.held ++ bytes) (g.end - 1) ≢ line_feed))
@@ -178,16 +188,19 @@ calls_read_taken (Err Read) before now source source_now means = tt
 calls_read_taken (Err NoMemory) before now source source_now means = tt
 
 -- each answer is the one to what is next
-answer_is : (result : Result (Option Item) NextFault) (before : ReaderState) (rest : List ℕ) (next now : NextWithin) → now ≡ next → IsAnswer before rest next result
+answer_is : (result : Result (Option Item) NextFault) (before : ReaderState) (rest : List ℕ) (next now : NextWithin) → now ≡ next
+    → IsAnswer before rest next result
     → IsAnswer before rest now result
 answer_is result before rest next now e h = subst (λ (n : NextWithin). IsAnswer before rest n result) (sym e) h
 
 pub calls_answer : CallsAnswer
 calls_answer (Ok (Some item)) before now left source source_now tells means read memory =
     let gives = means.answer in
-    answer_is (Ok (Some item)) before (before.held ++ left) (Known (Given (listed item) gives.end)) _ (told_next before left source.left _ tells gives.is_next) (item, refl, refl)
+    answer_is (Ok (Some item)) before (before.held ++ left) (Known (Given (listed item) gives.end)) _
+    (told_next before left source.left _ tells gives.is_next) (item, refl, refl)
 calls_answer (Ok None) before now left source source_now tells means read memory =
-    answer_is (Ok None) before (before.held ++ left) (Known Nothing) _ (told_next before left source.left (Known Nothing) tells means.answer.is_next) refl
+    answer_is (Ok None) before (before.held ++ left) (Known Nothing) _
+    (told_next before left source.left (Known Nothing) tells means.answer.is_next) refl
 calls_answer (Err (Text fault)) before now left source source_now tells means read memory =
     let gives = means.answer in
     answer_is (Err (Text fault)) before (before.held ++ left) (Known (Faulty gives.item_fault)) _

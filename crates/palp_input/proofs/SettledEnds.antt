@@ -55,7 +55,8 @@ feed_case false here there h = ap (λ (n : ℕ). n + 1) (h refl)
 line_same : (bytes more : List ℕ) → EndsInFeed bytes → line_len (bytes ++ more) ≡ line_len bytes
 unfolding EndsInFeed
 line_same [] more h = absurd h
-line_same (byte ∷ []) more h = ap (λ (n : ℕ). cond (n == line_feed) 1 (line_len more + 1)) h ∙ sym (ap (λ (n : ℕ). cond (n == line_feed) 1 (0 + 1)) h)
+line_same (byte ∷ []) more h = ap (λ (n : ℕ). cond (n == line_feed) 1 (line_len more + 1)) h
+    ∙ sym (ap (λ (n : ℕ). cond (n == line_feed) 1 (0 + 1)) h)
 line_same (byte ∷ next ∷ bytes) more h =
     feed_case (byte == line_feed) (line_len (next ∷ bytes)) (line_len ((next ∷ bytes) ++ more)) (λ e. line_same (next ∷ bytes) more h)
 
@@ -65,7 +66,8 @@ data EndsWith (place : ℕ) : List Piece → Type 0 where
   ends_behind : (piece : Piece) (pieces : List Piece) → end_of piece ≤ place → EndsWith place pieces → EndsWith place (piece ∷ pieces)
 
 join_case : (place at : ℕ) (token : Span) (pieces : List Piece) (b : Bool) → at + 1 ≤ place → token.end ≤ place → EndsWith place pieces
-    → EndsWith place (cond b (Token (record { at = at; end = token.end }) ∷ pieces) (Token (record { at = at; end = at + 1 }) ∷ Token token ∷ pieces))
+    → EndsWith place (cond b (Token (record { at = at; end = token.end }) ∷ pieces)
+    (Token (record { at = at; end = at + 1 }) ∷ Token token ∷ pieces))
 join_case place at token pieces true le high h = ends_behind (Token (record { at = at; end = token.end })) pieces high h
 join_case place at token pieces false le high h =
     ends_behind (Token (record { at = at; end = at + 1 })) (Token token ∷ pieces) le (ends_behind (Token token) pieces high h)
@@ -92,7 +94,8 @@ unfolding EndsInFeed step_by
 pieces_end at place [] h e = absurd h
 pieces_end at place (byte ∷ []) h e =
     let same : at ≡ place = omega arith in
-    subst (λ (b : ℕ). EndsWith place (pieces_of at (b ∷ []))) (sym h) (subst (λ (p : ℕ). EndsWith place (LineEnd p ∷ [])) (sym same) ends_here)
+    subst (λ (b : ℕ). EndsWith place (pieces_of at (b ∷ []))) (sym h)
+    (subst (λ (p : ℕ). EndsWith place (LineEnd p ∷ [])) (sym same) ends_here)
 pieces_end at place (byte ∷ next ∷ bytes) h e =
     step_ends (is_blank byte) (byte == line_feed) (is_token_byte byte) place at (pieces_of (at + 1) (next ∷ bytes)) (omega arith)
     (pieces_end (at + 1) place (next ∷ bytes) h (omega arith))
@@ -113,20 +116,23 @@ first_ends size place (Wrong at ∷ pieces) (ends_behind _ _ high h) = first_end
 first_ends size place (LineEnd at ∷ pieces) (ends_behind _ _ high h) = (refl, omega (arith, high))
 
 -- the last entry of a matrix of such pieces ends before the last line end
-entries_end : (text : List ℕ) (count after place : ℕ) (pieces : List Piece) (entries : List ℤ) (end : ℕ) → after ≤ place → EndsWith place pieces
+entries_end : (text : List ℕ) (count after place : ℕ) (pieces : List Piece) (entries : List ℤ) (end : ℕ) → after ≤ place
+    → EndsWith place pieces
     → matrix_read text count after pieces ≡ AllEntries entries end → end ≤ place
 entries_end text zero after place pieces entries end le h e = let same : after ≡ end = cc in subst (λ (n : ℕ). n ≤ place) same le
 entries_end text (suc count) after place [] entries end le h e = elim h [ ]
 entries_end text (suc count) after place (LineEnd _ ∷ []) entries end le ends_here e = cc
 entries_end text (suc count) after place (Token token ∷ pieces) entries end le (ends_behind _ _ high h) e =
-    let inverted = token_inverted token.at token.end (numeral_of (slice_range text token.at token.end)) (matrix_read text count token.end pieces) entries end e in
+    let inverted = token_inverted token.at token.end (numeral_of (slice_range text token.at token.end))
+    (matrix_read text count token.end pieces) entries end e in
     entries_end text count token.end place pieces inverted.entries end high h inverted.is
 entries_end text (suc count) after place (Wrong at ∷ pieces) entries end le (ends_behind _ _ high h) e = cc
 entries_end text (suc count) after place (LineEnd at ∷ pieces) entries end le (ends_behind _ _ high h) e =
     entries_end text (suc count) after place pieces entries end le h e
 
 -- without a piece there is no entry
-no_entry : (text : List ℕ) (count after : ℕ) (entries : List ℤ) (end : ℕ) → matrix_read text (suc count) after [] ≡ AllEntries entries end → ⊥
+no_entry : (text : List ℕ) (count after : ℕ) (entries : List ℤ) (end : ℕ) → matrix_read text (suc count) after [] ≡ AllEntries entries end
+    → ⊥
 no_entry text count after entries end e = cc
 
 module _ (first t : List ℕ) (feed : EndsInFeed first) where
@@ -139,7 +145,8 @@ module _ (first t : List ℕ) (feed : EndsInFeed first) where
   last_entry count end entries after le e = cases (cases_eq end (length first))
     where
       read : matrix_read first (suc count) end (pieces_of end (drop end first)) ≡ AllEntries entries after
-      read = subst (λ (text : List ℕ). matrix_read text (suc count) end (pieces_of end (drop end text)) ≡ AllEntries entries after) here_is e
+      read = subst (λ (text : List ℕ). matrix_read text (suc count) end (pieces_of end (drop end text)) ≡ AllEntries entries after) here_is
+          e
 
       cases : ((end ≡ length first) ⊎ (end ≢ length first)) → after < length first
       cases (inl all) = absurd (no_entry first count end entries after
@@ -162,7 +169,8 @@ module _ (first t : List ℕ) (feed : EndsInFeed first) where
   matrix_given : (at lines columns : ℕ) (here there : MatrixRead) (item : Listed) (place : ℕ)
       → ((entries : List ℤ) (after : ℕ) → here ≡ AllEntries entries after
       → (there ≡ AllEntries entries after) × (line_end (first ++ t) after ≡ line_end (first ++ []) after))
-      → matrix_item (first ++ []) at lines columns here ≡ Given item place → matrix_item (first ++ t) at lines columns there ≡ Given item place
+      → matrix_item (first ++ []) at lines columns here ≡ Given item place
+      → matrix_item (first ++ t) at lines columns there ≡ Given item place
   matrix_given at lines columns (AllEntries entries after) there item place h e =
       let both = h entries after refl in
       ap (matrix_item (first ++ t) at lines columns) both.0 ∙ ap (Given (ListedPoints lines columns entries)) both.1 ∙ e
@@ -171,9 +179,11 @@ module _ (first t : List ℕ) (feed : EndsInFeed first) where
 
   header_given : (end at lines columns count : ℕ) (none : Bool) (item : Listed) (place : ℕ) → end ≤ length first → (count == 0) ≡ none
       → cond none (Given (ListedPoints lines columns []) end)
-      (matrix_item (first ++ []) at lines columns (matrix_read (first ++ []) count end (pieces_of end (drop end (first ++ []))))) ≡ Given item place
+      (matrix_item (first ++ []) at lines columns (matrix_read (first ++ []) count end (pieces_of end (drop end (first ++ [])))))
+      ≡ Given item place
       → cond none (Given (ListedPoints lines columns []) end)
-      (matrix_item (first ++ t) at lines columns (matrix_read (first ++ t) count end (pieces_of end (drop end (first ++ t))))) ≡ Given item place
+      (matrix_item (first ++ t) at lines columns (matrix_read (first ++ t) count end (pieces_of end (drop end (first ++ t)))))
+      ≡ Given item place
   header_given end at lines columns count true item place le n e = e
   header_given end at lines columns zero false item place le n e = cc
   header_given end at lines columns (suc count) false item place le n e =
@@ -188,7 +198,8 @@ module _ (first t : List ℕ) (feed : EndsInFeed first) where
   numbers_given end [] item place le e = e
   numbers_given end (only ∷ []) item place le e = e
   numbers_given end (lines ∷ columns ∷ []) item place le e =
-      header_given end lines.at lines.value columns.value (lines.value * columns.value) (lines.value * columns.value == 0) item place le refl e
+      header_given end lines.at lines.value columns.value (lines.value * columns.value) (lines.value * columns.value == 0) item place le
+      refl e
   numbers_given end (degree ∷ one ∷ two ∷ more) item place le e = e
 
   line_given : (end : ℕ) (read : LineRead) (item : Listed) (place : ℕ) → end ≤ length first
@@ -198,7 +209,8 @@ module _ (first t : List ℕ) (feed : EndsInFeed first) where
 
   -- a first line whose line end stands in the text
   first_given : (head : Piece) (ps qs : List Piece) (place : ℕ) (item : Listed) (end : ℕ) → place + 1 ≡ length first
-      → LineEndsAt (first_line_end (length (first ++ [])) ps) (head ∷ ps) → Alike (length first) (head ∷ ps) (head ∷ qs) → Alike (length first) ps qs → EndsWith place ps
+      → LineEndsAt (first_line_end (length (first ++ [])) ps) (head ∷ ps) → Alike (length first) (head ∷ ps) (head ∷ qs)
+      → Alike (length first) ps qs → EndsWith place ps
       → line_item (first ++ []) (first_line_end (length (first ++ [])) ps) (line_read (first ++ []) true (head ∷ ps)) ≡ Given item end
       → line_item (first ++ t) (first_line_end (length (first ++ t)) qs) (line_read (first ++ t) true (head ∷ qs)) ≡ Given item end
   first_given head ps qs place item end all ends alike rest h e =
@@ -210,17 +222,22 @@ module _ (first t : List ℕ) (feed : EndsInFeed first) where
       (sym (line_settled first [] t (first_line_end (length (first ++ [])) ps) true (head ∷ ps) (head ∷ qs) alike ends le))
       ∙ line_given (first_line_end (length (first ++ [])) ps) (line_read (first ++ []) true (head ∷ ps)) item end le e
 
-  items_given : (ps qs : List Piece) (place : ℕ) (item : Listed) (end : ℕ) → place + 1 ≡ length first → Alike (length first) ps qs → EndsWith place ps
+  items_given : (ps qs : List Piece) (place : ℕ) (item : Listed) (end : ℕ) → place + 1 ≡ length first → Alike (length first) ps qs
+      → EndsWith place ps
       → pieces_item (first ++ []) ps ≡ Given item end → pieces_item (first ++ t) qs ≡ Given item end
   unfolding LineEndsAt
   items_given ps qs place item end all (alike_apart _ _ fp fq) h e = absurd (not_apart (length first) place ps all fp h)
-  items_given (Token u ∷ ps) (Token v ∷ qs) place item end all (alike_cut _ _ _ _ same low high other fp fq) (ends_behind _ _ most h) e = absurd (omega (arith, most, high))
+  items_given (Token u ∷ ps) (Token v ∷ qs) place item end all (alike_cut _ _ _ _ same low high other fp fq) (ends_behind _ _ most h) e =
+      absurd (omega (arith, most, high))
   items_given (Token token ∷ ps) (_ ∷ qs) place item end all (alike_same _ _ _ some within rest) (ends_behind _ _ most h) e =
-      first_given (Token token) ps qs place item end all (first_ends (length (first ++ [])) place ps h).0 (alike_same (Token token) ps qs some within rest) rest h e
+      first_given (Token token) ps qs place item end all (first_ends (length (first ++ [])) place ps h).0
+      (alike_same (Token token) ps qs some within rest) rest h e
   items_given (Wrong at ∷ ps) (_ ∷ qs) place item end all (alike_same _ _ _ some within rest) (ends_behind _ _ most h) e =
-      first_given (Wrong at) ps qs place item end all (first_ends (length (first ++ [])) place ps h).0 (alike_same (Wrong at) ps qs some within rest) rest h e
+      first_given (Wrong at) ps qs place item end all (first_ends (length (first ++ [])) place ps h).0
+      (alike_same (Wrong at) ps qs some within rest) rest h e
   items_given (LineEnd _ ∷ []) (_ ∷ qs) place item end all (alike_same _ _ _ some within rest) ends_here e = cc
-  items_given (LineEnd at ∷ ps) (_ ∷ qs) place item end all (alike_same _ _ _ some within rest) (ends_behind _ _ most h) e = items_given ps qs place item end all rest h e
+  items_given (LineEnd at ∷ ps) (_ ∷ qs) place item end all (alike_same _ _ _ some within rest) (ends_behind _ _ most h) e =
+      items_given ps qs place item end all rest h e
 
 -- whatever bytes follow
 pub whole_settled : (first more : List ℕ) → EndsInFeed first → (item : Listed) (end : ℕ) → next_of first ≡ Given item end

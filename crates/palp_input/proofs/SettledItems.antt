@@ -69,7 +69,8 @@ systems_end (Summed (first ∷ systems)) end =
     (ListedWeights (map weighted_of (first ∷ systems)))
 
 matrix_from : (text : List ℕ) (at lines columns place : ℕ) (read : MatrixRead) → place ≤ length text
-    → ((entries : List ℤ) (after : ℕ) → read ≡ AllEntries entries after → place ≤ after) → ((fault : ItemFault) → read ≡ FaultyMatrix fault → place ≤ fault.end)
+    → ((entries : List ℤ) (after : ℕ) → read ≡ AllEntries entries after → place ≤ after)
+    → ((fault : ItemFault) → read ≡ FaultyMatrix fault → place ≤ fault.end)
     → EndsFrom place (matrix_item text at lines columns read)
 unfolding EndsFrom
 matrix_from text at lines columns place (AllEntries entries after) most e f =
@@ -83,7 +84,8 @@ weaker low high Nothing le h = tt
 weaker low high (Given item end) le h = through low high end le h
 weaker low high (Faulty fault) le h = through low high fault.end le h
 
-header_from_case : (text : List ℕ) (place end : ℕ) (lines columns : LineNumber) (none : Bool) → place ≤ end → EndsFrom place (matrix_item text lines.at lines.value columns.value
+header_from_case : (text : List ℕ) (place end : ℕ) (lines columns : LineNumber) (none : Bool) → place ≤ end
+    → EndsFrom place (matrix_item text lines.at lines.value columns.value
     (matrix_read text (lines.value * columns.value) end (pieces_of end (drop end text))))
     → EndsFrom place (cond none (Given (ListedPoints lines.value columns.value []) end) (matrix_item text lines.at lines.value columns.value
     (matrix_read text (lines.value * columns.value) end (pieces_of end (drop end text)))))
@@ -92,19 +94,24 @@ header_from_case text place end lines columns true le h = le
 header_from_case text place end lines columns false le h = h
 
 -- what the numbers of a line say ends with the line or behind it
-numbers_from : (text : List ℕ) (place end : ℕ) (numbers : List LineNumber) → place ≤ end → place ≤ length text → EndsFrom place (numbers_item text end numbers)
+numbers_from : (text : List ℕ) (place end : ℕ) (numbers : List LineNumber) → place ≤ end → place ≤ length text
+    → EndsFrom place (numbers_item text end numbers)
 unfolding EndsFrom
 numbers_from text place end [] le most = tt
 numbers_from text place end (only ∷ []) le most = le
 numbers_from text place end (lines ∷ columns ∷ []) le most =
     header_from_case text place end lines columns (lines.value * columns.value == 0) le
-    (matrix_from text lines.at lines.value columns.value place (matrix_read text (lines.value * columns.value) end (pieces_of end (drop end text))) most
+    (matrix_from text lines.at lines.value columns.value place
+    (matrix_read text (lines.value * columns.value) end (pieces_of end (drop end text))) most
     (λ entries after e. through place end after le
-    (entries_from text end (lines.value * columns.value) end (pieces_of end (drop end text)) entries after (all_from end (drop end text)) (same_place end) e))
+    (entries_from text end (lines.value * columns.value) end (pieces_of end (drop end text)) entries after (all_from end (drop end text))
+    (same_place end) e))
     (λ fault e. through place end fault.end le
-    (at_most end fault.end (matrix_fault_from text end (lines.value * columns.value) end (pieces_of end (drop end text)) fault (all_from end (drop end text)) e))))
+    (at_most end fault.end (matrix_fault_from text end (lines.value * columns.value) end (pieces_of end (drop end text)) fault
+    (all_from end (drop end text)) e))))
 numbers_from text place end (degree ∷ first ∷ second ∷ more) le most =
-    elim (degree.value == 0) as (λ b. EndsFrom place (cond b (Faulty (fault_at NoWeights degree.at end)) (weights_item end (degree ∷ first ∷ second ∷ more)))) [
+    elim (degree.value == 0) as (λ b.
+    EndsFrom place (cond b (Faulty (fault_at NoWeights degree.at end)) (weights_item end (degree ∷ first ∷ second ∷ more)))) [
       | true ↦ le
       | false ↦ weaker place end (weights_item end (degree ∷ first ∷ second ∷ more)) le
           (systems_end (systems_read (length (degree ∷ first ∷ second ∷ more)) (degree ∷ first ∷ second ∷ more)) end)
@@ -128,10 +135,13 @@ item_from : (text : List ℕ) (place : ℕ) (ps : List Piece) → AllFrom place 
 unfolding EndsFrom
 item_from text place [] none_from most = tt
 item_from text place (Token token ∷ ps) (more_from _ _ low some rest) most =
-    line_item_from text place (first_line_end (length text) ps) (line_read text true (Token token ∷ ps)) (line_from (length text) place ps rest most) most
-    (λ fault e. at_most place fault.end (line_fault_from text place true (Token token ∷ ps) fault (more_from (Token token) ps low some rest) e))
+    line_item_from text place (first_line_end (length text) ps) (line_read text true (Token token ∷ ps))
+    (line_from (length text) place ps rest most) most
+    (λ fault e. at_most place fault.end (line_fault_from text place true (Token token ∷ ps) fault (more_from (Token token) ps low some rest)
+    e))
 item_from text place (Wrong at ∷ ps) (more_from _ _ low some rest) most =
-    line_item_from text place (first_line_end (length text) ps) (line_read text true (Wrong at ∷ ps)) (line_from (length text) place ps rest most) most
+    line_item_from text place (first_line_end (length text) ps) (line_read text true (Wrong at ∷ ps))
+    (line_from (length text) place ps rest most) most
     (λ fault e. at_most place fault.end (line_fault_from text place true (Wrong at ∷ ps) fault (more_from (Wrong at) ps low some rest) e))
 item_from text place (LineEnd at ∷ ps) (more_from _ _ low some rest) most = item_from text place ps rest most
 
@@ -139,9 +149,12 @@ item_from text place (LineEnd at ∷ ps) (more_from _ _ low some rest) most = it
 cut_from : (text : List ℕ) (place : ℕ) (token : Span) (ps : List Piece) → AllFrom place ps → place ≤ token.end → place ≤ length text
     → EndsFrom place (pieces_item text (Token token ∷ ps))
 cut_from text place token ps rest high most =
-    line_item_from text place (first_line_end (length text) ps) (line_read text true (Token token ∷ ps)) (line_from (length text) place ps rest most) most
-    (λ fault e. token_from place token.at token.end _ _ (line_read text false ps) fault high (λ r. at_most place fault.end (line_fault_from text place false ps fault rest r))
-    (token_fault true token.at token.end (slice_range text token.at token.end) (numeral_of (slice_range text token.at token.end)) (line_read text false ps) fault e))
+    line_item_from text place (first_line_end (length text) ps) (line_read text true (Token token ∷ ps))
+    (line_from (length text) place ps rest most) most
+    (λ fault e. token_from place token.at token.end _ _ (line_read text false ps) fault high
+    (λ r. at_most place fault.end (line_fault_from text place false ps fault rest r))
+    (token_fault true token.at token.end (slice_range text token.at token.end) (numeral_of (slice_range text token.at token.end))
+    (line_read text false ps) fault e))
   where
     token_from : (place at end : ℕ) (bytes : List ℕ) (numeral : Numeral) (rest : LineRead) (fault : ItemFault) → place ≤ end
         → (rest ≡ FaultyLine fault → place ≤ fault.end) → TokenFault true at end bytes numeral rest fault → place ≤ fault.end
@@ -150,13 +163,15 @@ cut_from text place token ps rest high most =
     token_from place at end bytes numeral rest fault high later (from_quotient e f _) = cc
 
 -- a line that ends before the beginning does
-feed_case : (feed : Bool) (here there rest : ℕ) → cond feed 1 (here + 1) < rest + 1 → (here < rest → there ≡ here) → cond feed 1 (there + 1) ≡ cond feed 1 (here + 1)
+feed_case : (feed : Bool) (here there rest : ℕ) → cond feed 1 (here + 1) < rest + 1 → (here < rest → there ≡ here)
+    → cond feed 1 (there + 1) ≡ cond feed 1 (here + 1)
 feed_case true here there rest lt h = refl
 feed_case false here there rest lt h = let same = h (omega arith) in omega arith
 
 feed : (first s t : List ℕ) → line_len (first ++ s) < length first → line_len (first ++ t) ≡ line_len (first ++ s)
 feed [] s t lt = absurd (omega arith)
-feed (byte ∷ first) s t lt = feed_case (byte == line_feed) (line_len (first ++ s)) (line_len (first ++ t)) (length first) (omega arith) (feed first s t)
+feed (byte ∷ first) s t lt = feed_case (byte == line_feed) (line_len (first ++ s)) (line_len (first ++ t)) (length first) (omega arith)
+    (feed first s t)
 
 module _ (first s t : List ℕ) where
   n_most : length first ≤ length (first ++ s)
@@ -172,9 +187,11 @@ module _ (first s t : List ℕ) where
       let dt = drop-append-le after first t le in
       let short : line_len (drop after first ++ s) < length (drop after first) =
       simp length-drop (subst (λ (xs : List ℕ). line_len xs < length first - after) ds (omega (arith, lt))) in
-      ap (λ (xs : List ℕ). after + line_len xs) dt ∙ ap (λ (k : ℕ). after + k) (feed (drop after first) s t short) ∙ sym (ap (λ (xs : List ℕ). after + line_len xs) ds)
+      ap (λ (xs : List ℕ). after + line_len xs) dt ∙ ap (λ (k : ℕ). after + k) (feed (drop after first) s t short)
+      ∙ sym (ap (λ (xs : List ℕ). after + line_len xs) ds)
 
-  pub alike_behind : (end : ℕ) → end ≤ length first → Alike (length first) (pieces_of end (drop end (first ++ s))) (pieces_of end (drop end (first ++ t)))
+  pub alike_behind : (end : ℕ) → end ≤ length first
+      → Alike (length first) (pieces_of end (drop end (first ++ s))) (pieces_of end (drop end (first ++ t)))
   alike_behind end le =
       rw (drop-append-le end first s le, drop-append-le end first t le)
       (alike_pieces end (length first) (drop end first) s t (simp length-drop (omega arith)))
@@ -186,13 +203,15 @@ module _ (first s t : List ℕ) where
       → matrix_item (first ++ t) at lines columns there ≡ matrix_item (first ++ s) at lines columns here
   unfolding EndsBefore
   matrix_item_settled at lines columns (AllEntries entries after) there e f lt =
-      ap (matrix_item (first ++ t) at lines columns) (e entries after refl (omega (arith, lt, longer after (line_len (drop after (first ++ s))))))
+      ap (matrix_item (first ++ t) at lines columns)
+      (e entries after refl (omega (arith, lt, longer after (line_len (drop after (first ++ s))))))
       ∙ ap (Given (ListedPoints lines columns entries)) (line_end_settled after lt)
   matrix_item_settled at lines columns (FaultyMatrix fault) there e f lt = ap (matrix_item (first ++ t) at lines columns) (f fault refl lt)
   matrix_item_settled at lines columns MissingEntries there e f lt = absurd (not_below (length first) (length (first ++ s)) n_most lt)
 
   header_settled : (end : ℕ) (lines columns : LineNumber) (none : Bool) → end ≤ length first
-      → EndsBefore (length first) (cond none (Given (ListedPoints lines.value columns.value []) end) (matrix_item (first ++ s) lines.at lines.value columns.value
+      → EndsBefore (length first) (cond none (Given (ListedPoints lines.value columns.value []) end)
+      (matrix_item (first ++ s) lines.at lines.value columns.value
       (matrix_read (first ++ s) (lines.value * columns.value) end (pieces_of end (drop end (first ++ s))))))
       → cond none (Given (ListedPoints lines.value columns.value []) end) (matrix_item (first ++ t) lines.at lines.value columns.value
       (matrix_read (first ++ t) (lines.value * columns.value) end (pieces_of end (drop end (first ++ t)))))
@@ -205,7 +224,8 @@ module _ (first s t : List ℕ) where
       (λ entries after e lt. matrix_settled first s t (lines.value * columns.value) end _ _ entries after alike lt e)
       (λ fault e lt. matrix_fault_settled first s t (lines.value * columns.value) end _ _ fault alike lt e) h
 
-  numbers_settled : (end : ℕ) (numbers : List LineNumber) → end ≤ length first → EndsBefore (length first) (numbers_item (first ++ s) end numbers)
+  numbers_settled : (end : ℕ) (numbers : List LineNumber) → end ≤ length first
+      → EndsBefore (length first) (numbers_item (first ++ s) end numbers)
       → numbers_item (first ++ t) end numbers ≡ numbers_item (first ++ s) end numbers
   numbers_settled end [] le h = refl
   numbers_settled end (only ∷ []) le h = refl
@@ -213,9 +233,11 @@ module _ (first s t : List ℕ) where
   numbers_settled end (degree ∷ one ∷ two ∷ more) le h = refl
 
   -- the end of a line of pieces that are alike
-  pub line_alike : (size end : ℕ) (ps qs : List Piece) → Alike (length first) ps qs → LineEndsAt end ps → end ≤ length first → first_line_end size qs ≡ end
+  pub line_alike : (size end : ℕ) (ps qs : List Piece) → Alike (length first) ps qs → LineEndsAt end ps → end ≤ length first
+      → first_line_end size qs ≡ end
   unfolding LineEndsAt
-  line_alike size end ps qs (alike_apart _ _ fp fq) h le = absurd (not_below end (length first) le (line_ends_from (length first) end ps fp h))
+  line_alike size end ps qs (alike_apart _ _ fp fq) h le =
+      absurd (not_below end (length first) le (line_ends_from (length first) end ps fp h))
   line_alike size end (Token u ∷ ps) (Token v ∷ qs) (alike_cut _ _ _ _ same low high other fp fq) h le =
       absurd (not_below end (length first) le (line_ends_from (length first) end ps fp h))
   line_alike size end (Token token ∷ ps) (_ ∷ qs) (alike_same _ _ _ some within rest) h le = line_alike size end ps qs rest h le
@@ -226,7 +248,8 @@ module _ (first s t : List ℕ) where
   line_item_settled : (end there_end : ℕ) (here there : LineRead)
       → ((fault : ItemFault) → here ≡ FaultyLine fault → fault.end < length first → there ≡ FaultyLine fault)
       → (end < length first → (there ≡ here) × (there_end ≡ end))
-      → EndsBefore (length first) (line_item (first ++ s) end here) → line_item (first ++ t) there_end there ≡ line_item (first ++ s) end here
+      → EndsBefore (length first) (line_item (first ++ s) end here)
+      → line_item (first ++ t) there_end there ≡ line_item (first ++ s) end here
   unfolding EndsBefore
   line_item_settled end there_end (FaultyLine fault) there f l h = ap (line_item (first ++ t) there_end) (f fault refl h)
   line_item_settled end there_end (LeadingNumbers numbers) there f l h =
@@ -235,11 +258,13 @@ module _ (first s t : List ℕ) where
       ap (λ (r : LineRead). line_item (first ++ t) there_end r) both.0 ∙ ap (λ (e : ℕ). numbers_item (first ++ t) e numbers) both.1
       ∙ numbers_settled end numbers (at_most end (length first) lt) h
     where
-      below_line : (end : ℕ) (numbers : List LineNumber) → EndsBefore (length first) (numbers_item (first ++ s) end numbers) → end < length first
+      below_line : (end : ℕ) (numbers : List LineNumber) → EndsBefore (length first) (numbers_item (first ++ s) end numbers)
+          → end < length first
       below_line end numbers h =
           let no : (length first ≤ end) → ⊥ = λ le.
           not_below (length first) (length first) (same_place (length first))
-          (between (length first) (length first) (numbers_item (first ++ s) end numbers) (numbers_from (first ++ s) (length first) end numbers le n_most) h) in
+          (between (length first) (length first) (numbers_item (first ++ s) end numbers)
+          (numbers_from (first ++ s) (length first) end numbers le n_most) h) in
           omega (arith, no)
 
   no_item : (next : Next) → EndsFrom (length first) next → EndsBefore (length first) next → ⊥
@@ -249,7 +274,8 @@ module _ (first s t : List ℕ) where
   items_settled : (ps qs : List Piece) → Alike (length first) ps qs → EndsBefore (length first) (pieces_item (first ++ s) ps)
       → pieces_item (first ++ t) qs ≡ pieces_item (first ++ s) ps
   unfolding LineEndsAt
-  items_settled ps qs (alike_apart _ _ fp fq) h = absurd (no_item (pieces_item (first ++ s) ps) (item_from (first ++ s) (length first) ps fp n_most) h)
+  items_settled ps qs (alike_apart _ _ fp fq) h =
+      absurd (no_item (pieces_item (first ++ s) ps) (item_from (first ++ s) (length first) ps fp n_most) h)
   items_settled (Token u ∷ ps) (Token v ∷ qs) (alike_cut _ _ _ _ same low high other fp fq) h =
       absurd (no_item (pieces_item (first ++ s) (Token u ∷ ps)) (cut_from (first ++ s) (length first) u ps fp high n_most) h)
   items_settled (Token token ∷ ps) (_ ∷ qs) (alike_same _ _ _ some within rest) h =
@@ -278,7 +304,8 @@ module _ (first s t : List ℕ) where
 
   -- an item, or a fault, that ends before the beginning does
   pub next_settled : EndsBefore (length first) (next_of (first ++ s)) → next_of (first ++ t) ≡ next_of (first ++ s)
-  next_settled h = items_settled (pieces_of 0 (first ++ s)) (pieces_of 0 (first ++ t)) (alike_pieces 0 (length first) first s t (omega arith)) h
+  next_settled h = items_settled (pieces_of 0 (first ++ s)) (pieces_of 0 (first ++ t))
+      (alike_pieces 0 (length first) first s t (omega arith)) h
 
 -- an item has a byte
 line_some : (size : ℕ) (ps : List Piece) → 1 ≤ size → 1 ≤ first_line_end size ps

@@ -25,7 +25,8 @@ use Rattle.palp_input.proofs.Alike.{AllFrom, none_from, more_from, Alike, alike_
 use Rattle.std.proofs.lemmas.Bool.{and_parts}
 
 -- the bytes of a token in the beginning of a text
-slice_front : (first rest : List ℕ) (at end : ℕ) → at ≤ end → end ≤ length first → slice_range (first ++ rest) at end ≡ slice_range first at end
+slice_front : (first rest : List ℕ) (at end : ℕ) → at ≤ end → end ≤ length first
+    → slice_range (first ++ rest) at end ≡ slice_range first at end
 slice_front first rest at end le most =
     let within : end - at ≤ length (drop at first) = simp length-drop (omega arith) in
     ap (take (end - at)) (drop-append-le at first rest (omega arith)) ∙ take-append-le (end - at) (drop at first) rest within
@@ -79,7 +80,8 @@ pub data TokenFault (is_first : Bool) (at end : ℕ) (bytes : List ℕ) (number 
   from_quotient : fault ≡ fault_at Quotient at (at + 2) → is_first ≡ false → starts_with eqb bytes (codes "/Z") ≡ true
       → TokenFault is_first at end bytes number rest fault
 
-before_fault : (number : LineNumber) (rest : LineRead) (fault : ItemFault) → before_line number rest ≡ FaultyLine fault → rest ≡ FaultyLine fault
+before_fault : (number : LineNumber) (rest : LineRead) (fault : ItemFault) → before_line number rest ≡ FaultyLine fault
+    → rest ≡ FaultyLine fault
 before_fault number (LeadingNumbers numbers) fault e = cc
 before_fault number (FaultyLine other) fault e = e
 
@@ -97,16 +99,19 @@ other_fault false at end bytes rest fault true q e =
     same_fault : {a b : ItemFault} → FaultyLine a ≡ FaultyLine b → a ≡ b
     same_fault e = cc
 other_fault false at end bytes rest fault false q e =
-    let none : LeadingNumbers [] ≡ FaultyLine fault = sym (ap (λ (b : Bool). cond b (FaultyLine (fault_at Quotient at (at + 2))) (LeadingNumbers [])) q) ∙ e in cc
+    let none : LeadingNumbers [] ≡ FaultyLine fault =
+    sym (ap (λ (b : Bool). cond b (FaultyLine (fault_at Quotient at (at + 2))) (LeadingNumbers [])) q) ∙ e in cc
 
 range_fault : (at end : ℕ) (fault : ItemFault) → FaultyLine (fault_at NumberRange at end) ≡ FaultyLine fault → fault.end ≡ end
 range_fault at end fault e = let same : fault_at NumberRange at end ≡ fault = cc in sym (ap (λ (f : ItemFault). f.end) same)
 
 pub token_fault : (is_first : Bool) (at end : ℕ) (bytes : List ℕ) (numeral : Numeral) (rest : LineRead) (fault : ItemFault)
     → line_token is_first at end bytes numeral rest ≡ FaultyLine fault → TokenFault is_first at end bytes numeral rest fault
-token_fault is_first at end bytes NoNumber rest fault e = other_fault is_first at end bytes rest fault (starts_with eqb bytes (codes "/Z")) refl e
+token_fault is_first at end bytes NoNumber rest fault e =
+    other_fault is_first at end bytes rest fault (starts_with eqb bytes (codes "/Z")) refl e
 token_fault is_first at end bytes TooLarge rest fault e = from_token (range_fault at end fault e) (λ r. e)
-token_fault is_first at end bytes (Number (pos value)) rest fault e = from_rest (before_fault (record { at = at; value = value }) rest fault e)
+token_fault is_first at end bytes (Number (pos value)) rest fault e =
+    from_rest (before_fault (record { at = at; value = value }) rest fault e)
 token_fault is_first at end bytes (Number (negsuc value)) rest fault e = from_token (range_fault at end fault e) (λ r. e)
 
 -- a fault of pieces that stand from a place on ends behind it
@@ -134,9 +139,11 @@ pub line_fault_from : (text : List ℕ) (place : ℕ) (is_first : Bool) (ps : Li
     → line_read text is_first ps ≡ FaultyLine fault → place < fault.end
 line_fault_from text place is_first [] fault none_from e = cc
 line_fault_from text place is_first (Token token ∷ ps) fault (more_from _ _ low some rest) e =
-    token_fault_from place token.at token.end is_first (slice_range text token.at token.end) (numeral_of (slice_range text token.at token.end))
+    token_fault_from place token.at token.end is_first (slice_range text token.at token.end)
+    (numeral_of (slice_range text token.at token.end))
     (line_read text false ps) fault low some (line_fault_from text place false ps fault rest)
-    (token_fault is_first token.at token.end (slice_range text token.at token.end) (numeral_of (slice_range text token.at token.end)) (line_read text false ps) fault e)
+    (token_fault is_first token.at token.end (slice_range text token.at token.end) (numeral_of (slice_range text token.at token.end))
+    (line_read text false ps) fault e)
 line_fault_from text place is_first (Wrong at ∷ ps) fault (more_from _ _ low some rest) e =
     behind place at (at + 1) fault.end low some (byte_fault at fault e)
 line_fault_from text place is_first (LineEnd at ∷ ps) fault (more_from _ _ low some rest) e = cc
@@ -151,7 +158,8 @@ slash byte bytes e =
     let minus : (byte == 45) ≡ false = grind (arith, nat_tests) in
     let digit : is_ascii_digit byte ≡ false = grind (arith, nat_tests) in
     ap (λ (x : Bool). cond x (numeral_of_digits (λ n. neg_ℤ (pos n)) bytes) (numeral_of_digits pos (byte ∷ bytes))) minus
-    ∙ ap (λ (x : Bool). cond x (cond (nat_lt (digits_value 10 (byte ∷ bytes)) bound) (Number (pos (digits_value 10 (byte ∷ bytes)))) TooLarge) NoNumber)
+    ∙ ap (λ (x : Bool). cond x (cond (nat_lt (digits_value 10 (byte ∷ bytes)) bound) (Number (pos (digits_value 10 (byte ∷ bytes))))
+    TooLarge) NoNumber)
     (no_digit (nat_le 1 (length (byte ∷ bytes))) (is_ascii_digit byte) (all_ascii_digits bytes) digit)
 
 quotient_no_number : (bytes : List ℕ) → starts_with eqb bytes (codes "/Z") ≡ true → numeral_of bytes ≡ NoNumber
@@ -159,7 +167,8 @@ quotient_no_number [] e = refl
 quotient_no_number (byte ∷ bytes) e = slash byte bytes (and_parts (eqb 47 byte) (pointwise eqb (90 ∷ []) (take 1 bytes)) e).0
 
 -- the fault of a quotient
-quotient_line : (is_first : Bool) (token : Span) (rest : LineRead) (bytes : List ℕ) → is_first ≡ false → starts_with eqb bytes (codes "/Z") ≡ true
+quotient_line : (is_first : Bool) (token : Span) (rest : LineRead) (bytes : List ℕ) → is_first ≡ false
+    → starts_with eqb bytes (codes "/Z") ≡ true
     → line_token is_first token.at token.end bytes (numeral_of bytes) rest ≡ FaultyLine (fault_at Quotient token.at (token.at + 2))
 quotient_line is_first token rest bytes f q =
     ap (λ (n : Numeral). line_token is_first token.at token.end bytes n rest) (quotient_no_number bytes q)
@@ -188,20 +197,24 @@ slash_front : (text : List ℕ) (at end : ℕ) → at + 2 ≤ end
 slash_front text at end le =
     let two : at + 2 - at ≡ 2 = omega arith in
     ap (λ (bytes : List ℕ). pointwise eqb (codes "/Z") bytes)
-    (take-take 2 (end - at) (drop at text) (omega arith) ∙ sym (ap (λ (n : ℕ). take 2 (take n (drop at text))) two ∙ take-take 2 2 (drop at text) (omega arith)))
+    (take-take 2 (end - at) (drop at text) (omega arith)
+    ∙ sym (ap (λ (n : ℕ). take 2 (take n (drop at text))) two ∙ take-take 2 2 (drop at text) (omega arith)))
 
 module _ (first s t : List ℕ) where
   -- a token that is whole in the beginning
-  token_settled : (is_first : Bool) (token : Span) (ps qs : List Piece) (fault : ItemFault) → token.at ≤ token.end → token.end ≤ length first
+  token_settled : (is_first : Bool) (token : Span) (ps qs : List Piece) (fault : ItemFault) → token.at ≤ token.end
+      → token.end ≤ length first
       → (line_read (first ++ s) false ps ≡ FaultyLine fault → line_read (first ++ t) false qs ≡ FaultyLine fault)
-      → TokenFault is_first token.at token.end (slice_range (first ++ s) token.at token.end) (numeral_of (slice_range (first ++ s) token.at token.end))
+      → TokenFault is_first token.at token.end (slice_range (first ++ s) token.at token.end)
+      (numeral_of (slice_range (first ++ s) token.at token.end))
       (line_read (first ++ s) false ps) fault
       → line_read (first ++ s) is_first (Token token ∷ ps) ≡ FaultyLine fault
       → line_read (first ++ t) is_first (Token token ∷ qs) ≡ FaultyLine fault
   token_settled is_first token ps qs fault some within rest (from_rest e) h =
       ap (λ (bytes : List ℕ). line_token is_first token.at token.end bytes (numeral_of bytes) (line_read (first ++ t) false qs))
       (sym (same_slice first s t token.at token.end some within))
-      ∙ ap (line_token is_first token.at token.end (slice_range (first ++ s) token.at token.end) (numeral_of (slice_range (first ++ s) token.at token.end)))
+      ∙ ap (line_token is_first token.at token.end (slice_range (first ++ s) token.at token.end)
+      (numeral_of (slice_range (first ++ s) token.at token.end)))
       (rest e ∙ sym e) ∙ h
   token_settled is_first token ps qs fault some within rest (from_token _ own) h =
       ap (λ (bytes : List ℕ). line_token is_first token.at token.end bytes (numeral_of bytes) (line_read (first ++ t) false qs))
@@ -210,12 +223,15 @@ module _ (first s t : List ℕ) where
   token_settled is_first token ps qs fault some within rest (from_quotient e f q) h =
       let same = same_slice first s t token.at token.end some within in
       let slash = ap (λ (bytes : List ℕ). starts_with eqb bytes (codes "/Z")) (sym same) ∙ q in
-      quotient_line is_first token (line_read (first ++ t) false qs) (slice_range (first ++ t) token.at token.end) f slash ∙ ap FaultyLine (sym e)
+      quotient_line is_first token (line_read (first ++ t) false qs) (slice_range (first ++ t) token.at token.end) f slash
+      ∙ ap FaultyLine (sym e)
 
   -- a token that is cut has no fault that ends in the beginning but that of a quotient
-  cut_settled : (is_first : Bool) (u v : Span) (ps qs : List Piece) (fault : ItemFault) → u.at ≡ v.at → length first ≤ u.end → length first ≤ v.end
+  cut_settled : (is_first : Bool) (u v : Span) (ps qs : List Piece) (fault : ItemFault) → u.at ≡ v.at → length first ≤ u.end
+      → length first ≤ v.end
       → AllFrom (length first) ps → fault.end < length first
-      → TokenFault is_first u.at u.end (slice_range (first ++ s) u.at u.end) (numeral_of (slice_range (first ++ s) u.at u.end)) (line_read (first ++ s) false ps) fault
+      → TokenFault is_first u.at u.end (slice_range (first ++ s) u.at u.end) (numeral_of (slice_range (first ++ s) u.at u.end))
+      (line_read (first ++ s) false ps) fault
       → line_read (first ++ t) is_first (Token v ∷ qs) ≡ FaultyLine fault
   cut_settled is_first u v ps qs fault same high other fp lt (from_rest e) =
       absurd (not_both (length first) fault.end (line_fault_from (first ++ s) (length first) false ps fault fp e) lt)
@@ -231,16 +247,19 @@ module _ (first s t : List ℕ) where
       ∙ ap (λ (n : ℕ). FaultyLine (fault_at Quotient n (n + 2))) (sym same) ∙ ap FaultyLine (sym e)
 
   -- a fault that ends in the beginning
-  pub line_fault_settled : (is_first : Bool) (ps qs : List Piece) (fault : ItemFault) → Alike (length first) ps qs → fault.end < length first
+  pub line_fault_settled : (is_first : Bool) (ps qs : List Piece) (fault : ItemFault) → Alike (length first) ps qs
+      → fault.end < length first
       → line_read (first ++ s) is_first ps ≡ FaultyLine fault → line_read (first ++ t) is_first qs ≡ FaultyLine fault
   line_fault_settled is_first ps qs fault (alike_apart _ _ fp fq) lt e =
       let from = line_fault_from (first ++ s) (length first) is_first ps fault fp e in absurd (omega (arith, from, lt))
   line_fault_settled is_first (Token u ∷ ps) (Token v ∷ qs) fault (alike_cut _ _ _ _ same low high other fp fq) lt e =
       cut_settled is_first u v ps qs fault same high other fp lt
-      (token_fault is_first u.at u.end (slice_range (first ++ s) u.at u.end) (numeral_of (slice_range (first ++ s) u.at u.end)) (line_read (first ++ s) false ps) fault e)
+      (token_fault is_first u.at u.end (slice_range (first ++ s) u.at u.end) (numeral_of (slice_range (first ++ s) u.at u.end))
+      (line_read (first ++ s) false ps) fault e)
   line_fault_settled is_first (Token token ∷ ps) (_ ∷ qs) fault (alike_same _ _ _ some within rest) lt e =
       token_settled is_first token ps qs fault (below token.at token.end some) within (line_fault_settled false ps qs fault rest lt)
-      (token_fault is_first token.at token.end (slice_range (first ++ s) token.at token.end) (numeral_of (slice_range (first ++ s) token.at token.end))
+      (token_fault is_first token.at token.end (slice_range (first ++ s) token.at token.end)
+      (numeral_of (slice_range (first ++ s) token.at token.end))
       (line_read (first ++ s) false ps) fault e) e
     where
       below : (a b : ℕ) → a < b → a ≤ b
@@ -253,7 +272,8 @@ pub record Inverted (rest : MatrixRead) (after : ℕ) : Type 0 where
   pub entries : List ℤ
   pub is : rest ≡ AllEntries entries after
 
-before_inverted : (entry : ℤ) (rest : MatrixRead) (entries : List ℤ) (after : ℕ) → before_entries entry rest ≡ AllEntries entries after → Inverted rest after
+before_inverted : (entry : ℤ) (rest : MatrixRead) (entries : List ℤ) (after : ℕ) → before_entries entry rest ≡ AllEntries entries after
+    → Inverted rest after
 before_inverted entry (AllEntries more place) entries after e = record { entries = more; is = places more place entries after e }
   where
     places : (more : List ℤ) (place : ℕ) (entries : List ℤ) (after : ℕ) → AllEntries (entry ∷ more) place ≡ AllEntries entries after
@@ -271,9 +291,11 @@ token_inverted at end (Number value) rest entries after e = before_inverted valu
 -- where the fault of a matrix comes from
 data EntryFault (at end : ℕ) (numeral : Numeral) (rest : MatrixRead) (fault : ItemFault) : Type 0 where
   entry_rest : rest ≡ FaultyMatrix fault → EntryFault at end numeral rest fault
-  entry_own : fault.end ≡ end → ((r : MatrixRead) → matrix_token at end numeral r ≡ FaultyMatrix fault) → EntryFault at end numeral rest fault
+  entry_own : fault.end ≡ end → ((r : MatrixRead) → matrix_token at end numeral r ≡ FaultyMatrix fault)
+      → EntryFault at end numeral rest fault
 
-before_entry_fault : (entry : ℤ) (rest : MatrixRead) (fault : ItemFault) → before_entries entry rest ≡ FaultyMatrix fault → rest ≡ FaultyMatrix fault
+before_entry_fault : (entry : ℤ) (rest : MatrixRead) (fault : ItemFault) → before_entries entry rest ≡ FaultyMatrix fault
+    → rest ≡ FaultyMatrix fault
 before_entry_fault entry (AllEntries more place) fault e = cc
 before_entry_fault entry (FaultyMatrix other) fault e = e
 before_entry_fault entry MissingEntries fault e = cc
@@ -281,14 +303,16 @@ before_entry_fault entry MissingEntries fault e = cc
 matrix_end : (kind : TextKind) (at end : ℕ) (fault : ItemFault) → FaultyMatrix (fault_at kind at end) ≡ FaultyMatrix fault → fault.end ≡ end
 matrix_end kind at end fault e = let same : fault_at kind at end ≡ fault = cc in sym (end_is (fault_at kind at end) fault same)
 
-entry_fault : (at end : ℕ) (numeral : Numeral) (rest : MatrixRead) (fault : ItemFault) → matrix_token at end numeral rest ≡ FaultyMatrix fault
+entry_fault : (at end : ℕ) (numeral : Numeral) (rest : MatrixRead) (fault : ItemFault)
+    → matrix_token at end numeral rest ≡ FaultyMatrix fault
     → EntryFault at end numeral rest fault
 entry_fault at end NoNumber rest fault e = entry_own (matrix_end BadNumber at end fault e) (λ r. e)
 entry_fault at end TooLarge rest fault e = entry_own (matrix_end NumberRange at end fault e) (λ r. e)
 entry_fault at end (Number value) rest fault e = entry_rest (before_entry_fault value rest fault e)
 
 -- entries of pieces that stand from a place on end behind it, and so do faults
-none_left : (text : List ℕ) (after : ℕ) (ps : List Piece) (entries : List ℤ) (end : ℕ) → matrix_read text 0 after ps ≡ AllEntries entries end → after ≡ end
+none_left : (text : List ℕ) (after : ℕ) (ps : List Piece) (entries : List ℤ) (end : ℕ)
+    → matrix_read text 0 after ps ≡ AllEntries entries end → after ≡ end
 none_left text after ps entries end e = cc
 
 pub at_most : (a b : ℕ) → a < b → a ≤ b
@@ -296,11 +320,14 @@ at_most a b h = omega arith
 
 pub entries_from : (text : List ℕ) (place count after : ℕ) (ps : List Piece) (entries : List ℤ) (end : ℕ) → AllFrom place ps → place ≤ after
     → matrix_read text count after ps ≡ AllEntries entries end → place ≤ end
-entries_from text place zero after ps entries end f le e = let same = none_left text after ps entries end e in subst (λ (n : ℕ). place ≤ n) same le
+entries_from text place zero after ps entries end f le e = let same = none_left text after ps entries end e in
+    subst (λ (n : ℕ). place ≤ n) same le
 entries_from text place (suc count) after [] entries end none_from le e = cc
 entries_from text place (suc count) after (Token token ∷ ps) entries end (more_from _ _ low some rest) le e =
-    let inverted = token_inverted token.at token.end (numeral_of (slice_range text token.at token.end)) (matrix_read text count token.end ps) entries end e in
-    entries_from text place count token.end ps inverted.entries end rest (at_most place token.end (behind place token.at token.end token.end low some refl)) inverted.is
+    let inverted = token_inverted token.at token.end (numeral_of (slice_range text token.at token.end))
+    (matrix_read text count token.end ps) entries end e in
+    entries_from text place count token.end ps inverted.entries end rest
+    (at_most place token.end (behind place token.at token.end token.end low some refl)) inverted.is
 entries_from text place (suc count) after (Wrong at ∷ ps) entries end (more_from _ _ low some rest) le e = cc
 entries_from text place (suc count) after (LineEnd at ∷ ps) entries end (more_from _ _ low some rest) le e =
     entries_from text place (suc count) after ps entries end rest le e
@@ -309,17 +336,21 @@ some_from : (text : List ℕ) (place count after : ℕ) (ps : List Piece) (entri
     → matrix_read text (suc count) after ps ≡ AllEntries entries end → place ≤ end
 some_from text place count after [] entries end none_from e = cc
 some_from text place count after (Token token ∷ ps) entries end (more_from _ _ low some rest) e =
-    let inverted = token_inverted token.at token.end (numeral_of (slice_range text token.at token.end)) (matrix_read text count token.end ps) entries end e in
-    entries_from text place count token.end ps inverted.entries end rest (at_most place token.end (behind place token.at token.end token.end low some refl)) inverted.is
+    let inverted = token_inverted token.at token.end (numeral_of (slice_range text token.at token.end))
+    (matrix_read text count token.end ps) entries end e in
+    entries_from text place count token.end ps inverted.entries end rest
+    (at_most place token.end (behind place token.at token.end token.end low some refl)) inverted.is
 some_from text place count after (Wrong at ∷ ps) entries end (more_from _ _ low some rest) e = cc
-some_from text place count after (LineEnd at ∷ ps) entries end (more_from _ _ low some rest) e = some_from text place count after ps entries end rest e
+some_from text place count after (LineEnd at ∷ ps) entries end (more_from _ _ low some rest) e =
+    some_from text place count after ps entries end rest e
 
 pub matrix_fault_from : (text : List ℕ) (place count after : ℕ) (ps : List Piece) (fault : ItemFault) → AllFrom place ps
     → matrix_read text count after ps ≡ FaultyMatrix fault → place < fault.end
 matrix_fault_from text place zero after ps fault f e = cc
 matrix_fault_from text place (suc count) after [] fault none_from e = cc
 matrix_fault_from text place (suc count) after (Token token ∷ ps) fault (more_from _ _ low some rest) e =
-    entry_from place token.at token.end (numeral_of (slice_range text token.at token.end)) (matrix_read text count token.end ps) fault low some
+    entry_from place token.at token.end (numeral_of (slice_range text token.at token.end)) (matrix_read text count token.end ps) fault low
+    some
     (matrix_fault_from text place count token.end ps fault rest)
     (entry_fault token.at token.end (numeral_of (slice_range text token.at token.end)) (matrix_read text count token.end ps) fault e)
   where
@@ -329,7 +360,8 @@ matrix_fault_from text place (suc count) after (Token token ∷ ps) fault (more_
     entry_from place at end numeral rest fault low some later (entry_own e _) = behind place at end fault.end low some e
 matrix_fault_from text place (suc count) after (Wrong at ∷ ps) fault (more_from _ _ low some rest) e =
     behind place at (at + 1) fault.end low some (matrix_end BadByte at (at + 1) fault e)
-matrix_fault_from text place (suc count) after (LineEnd at ∷ ps) fault (more_from _ _ low some rest) e = matrix_fault_from text place (suc count) after ps fault rest e
+matrix_fault_from text place (suc count) after (LineEnd at ∷ ps) fault (more_from _ _ low some rest) e =
+    matrix_fault_from text place (suc count) after ps fault rest e
 
 pub not_below : (a b : ℕ) → a ≤ b → b < a → ⊥
 not_below a b h k = omega arith
@@ -337,8 +369,10 @@ not_below a b h k = omega arith
 module _ (first s t : List ℕ) where
   entry_same : (count : ℕ) (token : Span) (ps qs : List Piece) → token.at ≤ token.end → token.end ≤ length first
       → matrix_read (first ++ s) count token.end ps ≡ matrix_read (first ++ t) count token.end qs
-      → matrix_token token.at token.end (numeral_of (slice_range (first ++ s) token.at token.end)) (matrix_read (first ++ s) count token.end ps)
-      ≡ matrix_token token.at token.end (numeral_of (slice_range (first ++ t) token.at token.end)) (matrix_read (first ++ t) count token.end qs)
+      → matrix_token token.at token.end (numeral_of (slice_range (first ++ s) token.at token.end))
+      (matrix_read (first ++ s) count token.end ps)
+      ≡ matrix_token token.at token.end (numeral_of (slice_range (first ++ t) token.at token.end))
+      (matrix_read (first ++ t) count token.end qs)
   entry_same count token ps qs some within e =
       ap (λ (bytes : List ℕ). matrix_token token.at token.end (numeral_of bytes) (matrix_read (first ++ s) count token.end ps))
       (same_slice first s t token.at token.end some within)
@@ -351,10 +385,13 @@ module _ (first s t : List ℕ) where
   matrix_settled (suc count) after ps qs entries end (alike_apart _ _ fp fq) lt e =
       absurd (not_below (length first) end (some_from (first ++ s) (length first) count after ps entries end fp e) lt)
   matrix_settled (suc count) after (Token u ∷ ps) (Token v ∷ qs) entries end (alike_cut _ _ _ _ same low high other fp fq) lt e =
-      let inverted = token_inverted u.at u.end (numeral_of (slice_range (first ++ s) u.at u.end)) (matrix_read (first ++ s) count u.end ps) entries end e in
-      absurd (not_below (length first) end (entries_from (first ++ s) (length first) count u.end ps inverted.entries end fp high inverted.is) lt)
+      let inverted = token_inverted u.at u.end (numeral_of (slice_range (first ++ s) u.at u.end)) (matrix_read (first ++ s) count u.end ps)
+      entries end e in
+      absurd (not_below (length first) end
+      (entries_from (first ++ s) (length first) count u.end ps inverted.entries end fp high inverted.is) lt)
   matrix_settled (suc count) after (Token token ∷ ps) (_ ∷ qs) entries end (alike_same _ _ _ some within rest) lt e =
-      let inverted = token_inverted token.at token.end (numeral_of (slice_range (first ++ s) token.at token.end)) (matrix_read (first ++ s) count token.end ps) entries end e in
+      let inverted = token_inverted token.at token.end (numeral_of (slice_range (first ++ s) token.at token.end))
+      (matrix_read (first ++ s) count token.end ps) entries end e in
       let again = matrix_settled count token.end ps qs inverted.entries end rest lt inverted.is in
       sym (entry_same count token ps qs (at_most token.at token.end some) within (inverted.is ∙ sym again)) ∙ e
   matrix_settled (suc count) after (Wrong at ∷ ps) (_ ∷ qs) entries end (alike_same _ _ _ some within rest) lt e = cc
@@ -362,32 +399,42 @@ module _ (first s t : List ℕ) where
       matrix_settled (suc count) after ps qs entries end rest lt e
 
   own_fault : (count : ℕ) (token : Span) (ps qs : List Piece) (fault : ItemFault) → token.at ≤ token.end → token.end ≤ length first
-      → (matrix_read (first ++ s) count token.end ps ≡ FaultyMatrix fault → matrix_read (first ++ t) count token.end qs ≡ FaultyMatrix fault)
-      → EntryFault token.at token.end (numeral_of (slice_range (first ++ s) token.at token.end)) (matrix_read (first ++ s) count token.end ps) fault
-      → matrix_token token.at token.end (numeral_of (slice_range (first ++ s) token.at token.end)) (matrix_read (first ++ s) count token.end ps) ≡ FaultyMatrix fault
-      → matrix_token token.at token.end (numeral_of (slice_range (first ++ t) token.at token.end)) (matrix_read (first ++ t) count token.end qs) ≡ FaultyMatrix fault
-  own_fault count token ps qs fault some within later (entry_rest r) e = sym (entry_same count token ps qs some within (r ∙ sym (later r))) ∙ e
+      → (matrix_read (first ++ s) count token.end ps ≡ FaultyMatrix fault
+      → matrix_read (first ++ t) count token.end qs ≡ FaultyMatrix fault)
+      → EntryFault token.at token.end (numeral_of (slice_range (first ++ s) token.at token.end))
+      (matrix_read (first ++ s) count token.end ps) fault
+      → matrix_token token.at token.end (numeral_of (slice_range (first ++ s) token.at token.end))
+      (matrix_read (first ++ s) count token.end ps) ≡ FaultyMatrix fault
+      → matrix_token token.at token.end (numeral_of (slice_range (first ++ t) token.at token.end))
+      (matrix_read (first ++ t) count token.end qs) ≡ FaultyMatrix fault
+  own_fault count token ps qs fault some within later (entry_rest r) e = sym (entry_same count token ps qs some within (r ∙ sym (later r)))
+      ∙ e
   own_fault count token ps qs fault some within later (entry_own _ own) e =
       ap (λ (bytes : List ℕ). matrix_token token.at token.end (numeral_of bytes) (matrix_read (first ++ t) count token.end qs))
       (sym (same_slice first s t token.at token.end some within))
       ∙ own (matrix_read (first ++ t) count token.end qs)
 
-  cut_entry : (count : ℕ) (u : Span) (ps : List Piece) (fault : ItemFault) → length first ≤ u.end → AllFrom (length first) ps → fault.end < length first
+  cut_entry : (count : ℕ) (u : Span) (ps : List Piece) (fault : ItemFault) → length first ≤ u.end → AllFrom (length first) ps
+      → fault.end < length first
       → EntryFault u.at u.end (numeral_of (slice_range (first ++ s) u.at u.end)) (matrix_read (first ++ s) count u.end ps) fault → ⊥
-  cut_entry count u ps fault high fp lt (entry_rest r) = not_both (length first) fault.end (matrix_fault_from (first ++ s) (length first) count u.end ps fault fp r) lt
+  cut_entry count u ps fault high fp lt (entry_rest r) =
+      not_both (length first) fault.end (matrix_fault_from (first ++ s) (length first) count u.end ps fault fp r) lt
   cut_entry count u ps fault high fp lt (entry_own e _) = not_end (length first) u.end fault.end high e lt
 
   -- a fault that ends in the beginning
-  pub matrix_fault_settled : (count after : ℕ) (ps qs : List Piece) (fault : ItemFault) → Alike (length first) ps qs → fault.end < length first
+  pub matrix_fault_settled : (count after : ℕ) (ps qs : List Piece) (fault : ItemFault) → Alike (length first) ps qs
+      → fault.end < length first
       → matrix_read (first ++ s) count after ps ≡ FaultyMatrix fault → matrix_read (first ++ t) count after qs ≡ FaultyMatrix fault
   matrix_fault_settled zero after ps qs fault alike lt e = cc
   matrix_fault_settled (suc count) after ps qs fault (alike_apart _ _ fp fq) lt e =
       absurd (not_both (length first) fault.end (matrix_fault_from (first ++ s) (length first) (suc count) after ps fault fp e) lt)
   matrix_fault_settled (suc count) after (Token u ∷ ps) (Token v ∷ qs) fault (alike_cut _ _ _ _ same low high other fp fq) lt e =
-      absurd (cut_entry count u ps fault high fp lt (entry_fault u.at u.end (numeral_of (slice_range (first ++ s) u.at u.end)) (matrix_read (first ++ s) count u.end ps) fault e))
+      absurd (cut_entry count u ps fault high fp lt (entry_fault u.at u.end (numeral_of (slice_range (first ++ s) u.at u.end))
+      (matrix_read (first ++ s) count u.end ps) fault e))
   matrix_fault_settled (suc count) after (Token token ∷ ps) (_ ∷ qs) fault (alike_same _ _ _ some within rest) lt e =
       own_fault count token ps qs fault (at_most token.at token.end some) within (matrix_fault_settled count token.end ps qs fault rest lt)
-      (entry_fault token.at token.end (numeral_of (slice_range (first ++ s) token.at token.end)) (matrix_read (first ++ s) count token.end ps) fault e) e
+      (entry_fault token.at token.end (numeral_of (slice_range (first ++ s) token.at token.end))
+      (matrix_read (first ++ s) count token.end ps) fault e) e
   matrix_fault_settled (suc count) after (Wrong at ∷ ps) (_ ∷ qs) fault (alike_same _ _ _ some within rest) lt e = e
   matrix_fault_settled (suc count) after (LineEnd at ∷ ps) (_ ∷ qs) fault (alike_same _ _ _ some within rest) lt e =
       matrix_fault_settled (suc count) after ps qs fault rest lt e

@@ -39,11 +39,13 @@ step_line_end false false false size at pieces rest n h = h ∙ omega arith
 blank_no_feed : (byte : ℕ) → is_blank byte ≡ true → (byte == line_feed) ≡ false
 blank_no_feed byte h = grind (arith, nat_tests)
 
-pub line_len-pieces : (size at : ℕ) (bytes : List ℕ) → size ≡ at + length bytes → first_line_end size (pieces_of at bytes) ≡ at + line_len bytes
+pub line_len-pieces : (size at : ℕ) (bytes : List ℕ) → size ≡ at + length bytes
+    → first_line_end size (pieces_of at bytes) ≡ at + line_len bytes
 unfolding step_by
 line_len-pieces size at [] e = omega (arith, e)
 line_len-pieces size at (byte ∷ bytes) e =
-    step_line_end (is_blank byte) (byte == line_feed) (is_token_byte byte) size at (pieces_of (at + 1) bytes) (line_len bytes) (blank_no_feed byte)
+    step_line_end (is_blank byte) (byte == line_feed) (is_token_byte byte) size at (pieces_of (at + 1) bytes) (line_len bytes)
+    (blank_no_feed byte)
     (line_len-pieces size (at + 1) bytes (omega arith))
 
 -- the line's end behind the first of the pieces from a place on
@@ -53,12 +55,14 @@ line_end_here text at more pieces le e =
     ap (first_line_end (length text)) (sym e) ∙ line_len-pieces (length text) at (drop at text) (simp length-drop (omega arith))
 
 -- a token begins one
-pub token_starts : (text : List ℕ) (token : Span) (more : List Piece) → token.at ≤ length text → without_line_ends (pieces_of 0 text) ≡ Token token ∷ more
+pub token_starts : (text : List ℕ) (token : Span) (more : List Piece) → token.at ≤ length text
+    → without_line_ends (pieces_of 0 text) ≡ Token token ∷ more
     → pieces_of token.at (drop token.at text) ≡ Token token ∷ more
     → next_of text ≡ line_item text (line_end text token.at) (line_read text true (pieces_of token.at (drop token.at text)))
 token_starts text token more le h here =
     pieces_item-line_ends text (pieces_of 0 text) ∙ ap (pieces_item text) h
-    ∙ ap (λ (n : ℕ). line_item text n (line_read text true (Token token ∷ more))) (line_end_here text token.at more (Token token ∷ more) le here)
+    ∙ ap (λ (n : ℕ). line_item text n (line_read text true (Token token ∷ more)))
+    (line_end_here text token.at more (Token token ∷ more) le here)
     ∙ ap (λ (ps : List Piece). line_item text (line_end text token.at) (line_read text true ps)) (sym here)
 
 -- and so does a byte that no text has

@@ -27,16 +27,19 @@ first_weaker place (LineEnd at ∷ pieces) h = tt
 pub join_same : (at : ℕ) (token : Span) (pieces : List Piece) → token.at ≡ at + 1
     → join_token at (Token token ∷ pieces) ≡ Token (record { at = at; end = token.end }) ∷ pieces
 join_same at token pieces e =
-    ap (λ (b : Bool). cond b (Token (record { at = at; end = token.end }) ∷ pieces) (Token (record { at = at; end = at + 1 }) ∷ Token token ∷ pieces))
+    ap (λ (b : Bool). cond b (Token (record { at = at; end = token.end }) ∷ pieces)
+    (Token (record { at = at; end = at + 1 }) ∷ Token token ∷ pieces))
     (eq-eqb token.at (at + 1) e)
 
 pub join_apart : (at : ℕ) (token : Span) (pieces : List Piece) → at + 2 ≤ token.at
     → join_token at (Token token ∷ pieces) ≡ Token (record { at = at; end = at + 1 }) ∷ Token token ∷ pieces
 join_apart at token pieces h =
     let apart : (token.at == at + 1) ≡ false = grind (arith, nat_tests) in
-    ap (λ (b : Bool). cond b (Token (record { at = at; end = token.end }) ∷ pieces) (Token (record { at = at; end = at + 1 }) ∷ Token token ∷ pieces)) apart
+    ap (λ (b : Bool). cond b (Token (record { at = at; end = token.end }) ∷ pieces)
+    (Token (record { at = at; end = at + 1 }) ∷ Token token ∷ pieces)) apart
 
-pub join_other : (at : ℕ) (pieces : List Piece) → FirstFrom (at + 2) pieces → join_token at pieces ≡ Token (record { at = at; end = at + 1 }) ∷ pieces
+pub join_other : (at : ℕ) (pieces : List Piece) → FirstFrom (at + 2) pieces
+    → join_token at pieces ≡ Token (record { at = at; end = at + 1 }) ∷ pieces
 unfolding FirstFrom
 join_other at [] h = refl
 join_other at (Token token ∷ pieces) h = join_apart at token pieces h
@@ -45,7 +48,8 @@ join_other at (LineEnd place ∷ pieces) h = refl
 
 -- the token that a byte makes stands at its place
 join_first_case : (at : ℕ) (token : Span) (pieces : List Piece) (b : Bool)
-    → FirstFrom at (cond b (Token (record { at = at; end = token.end }) ∷ pieces) (Token (record { at = at; end = at + 1 }) ∷ Token token ∷ pieces))
+    → FirstFrom at (cond b (Token (record { at = at; end = token.end }) ∷ pieces)
+    (Token (record { at = at; end = at + 1 }) ∷ Token token ∷ pieces))
 unfolding FirstFrom
 join_first_case at token pieces true = omega arith
 join_first_case at token pieces false = omega arith
@@ -59,9 +63,11 @@ join_first at (LineEnd place ∷ pieces) = omega arith
 
 -- the pieces of a byte and of those behind it, by the kind of the byte
 unfoldable pub step_by : Bool → Bool → Bool → ℕ → List Piece → List Piece
-step_by blank feed token at pieces = cond blank pieces (cond feed (LineEnd at ∷ pieces) (cond token (join_token at pieces) (Wrong at ∷ pieces)))
+step_by blank feed token at pieces =
+    cond blank pieces (cond feed (LineEnd at ∷ pieces) (cond token (join_token at pieces) (Wrong at ∷ pieces)))
 
-first_step : (blank feed token : Bool) (at : ℕ) (pieces : List Piece) → FirstFrom (at + 1) pieces → FirstFrom at (step_by blank feed token at pieces)
+first_step : (blank feed token : Bool) (at : ℕ) (pieces : List Piece) → FirstFrom (at + 1) pieces
+    → FirstFrom at (step_by blank feed token at pieces)
 unfolding FirstFrom step_by
 first_step true feed token at pieces h = first_weaker at pieces h
 first_step false true token at pieces h = tt
@@ -75,7 +81,8 @@ firsts at (byte ∷ bytes) =
     first_step (is_blank byte) (byte == line_feed) (is_token_byte byte) at (pieces_of (at + 1) bytes) (firsts (at + 1) bytes)
 
 -- a byte of a token is no blank and no line end
-token_step : (byte at : ℕ) (bytes : List ℕ) → is_token_byte byte ≡ true → pieces_of at (byte ∷ bytes) ≡ join_token at (pieces_of (at + 1) bytes)
+token_step : (byte at : ℕ) (bytes : List ℕ) → is_token_byte byte ≡ true
+    → pieces_of at (byte ∷ bytes) ≡ join_token at (pieces_of (at + 1) bytes)
 token_step byte at bytes h =
     let blank : is_blank byte ≡ false = grind (arith, nat_tests) in
     let feed : (byte == line_feed) ≡ false = grind (arith, nat_tests) in
@@ -94,11 +101,13 @@ other_step false true token at pieces e h = tt
 other_step false false true at pieces e h = absurd (cc e)
 other_step false false false at pieces e h = tt
 
-stops_first : (at : ℕ) (bytes : List ℕ) → (0 < length bytes → is_token_byte (get_or bytes 0 0) ≡ false) → FirstFrom (at + 1) (pieces_of at bytes)
+stops_first : (at : ℕ) (bytes : List ℕ) → (0 < length bytes → is_token_byte (get_or bytes 0 0) ≡ false)
+    → FirstFrom (at + 1) (pieces_of at bytes)
 unfolding FirstFrom step_by
 stops_first at [] h = tt
 stops_first at (byte ∷ bytes) h =
-    other_step (is_blank byte) (byte == line_feed) (is_token_byte byte) at (pieces_of (at + 1) bytes) (h (omega arith)) (firsts (at + 1) bytes)
+    other_step (is_blank byte) (byte == line_feed) (is_token_byte byte) at (pieces_of (at + 1) bytes) (h (omega arith))
+    (firsts (at + 1) bytes)
 
 -- a run of at least one byte of a token, which isn't followed by one
 pub token_run : (text : List ℕ) (more at end : ℕ) → end ≡ at + more + 1 → end ≤ length text

@@ -11,7 +11,8 @@ use Rattle.palp_input.specs.declared.lines.LineNumber.{LineNumber}
 use Rattle.palp_input.specs.declared.systems.PlacedSystem.{PlacedSystem as KeptSystem}
 
 -- the weight at a place
-pub weight_at-within : (place : ℕ) (weights : List LineNumber) (d : LineNumber) → place < length weights → (get_or weights place d).value ≡ weight_at place weights
+pub weight_at-within : (place : ℕ) (weights : List LineNumber) (d : LineNumber) → place < length weights
+    → (get_or weights place d).value ≡ weight_at place weights
 weight_at-within place [] d h = absurd (omega arith)
 weight_at-within zero (number ∷ weights) d h = refl
 weight_at-within (suc place) (number ∷ weights) d h = weight_at-within place weights d (omega arith)
@@ -81,38 +82,49 @@ take_stop left number numbers h =
     (cond (left == 0) (Some (record { weights = []; rest = number ∷ numbers })) None)) test
 
 module _ (numbers : List LineNumber) (from degree left place : ℕ) (d : LineNumber)
-    (so_far : take_weights degree (drop from numbers) ≡ taken_behind (slice_range numbers from place) (take_weights left (drop place numbers))) where
+    (so_far : take_weights degree (drop from numbers) ≡ taken_behind (slice_range numbers from place)
+    (take_weights left (drop place numbers))) where
   -- one weight more
   pub weight_more : from ≤ place → place < length numbers → (get_or numbers place d).value ≤ left
       → take_weights degree (drop from numbers)
-      ≡ taken_behind (slice_range numbers from (place + 1)) (take_weights (left - (get_or numbers place d).value) (drop (place + 1) numbers))
+      ≡ taken_behind (slice_range numbers from (place + 1))
+      (take_weights (left - (get_or numbers place d).value) (drop (place + 1) numbers))
   weight_more le lt h =
-      so_far ∙ ap (λ (ns : List LineNumber). taken_behind (slice_range numbers from place) (take_weights left ns)) (drop_more numbers place d lt)
+      so_far ∙ ap (λ (ns : List LineNumber). taken_behind (slice_range numbers from place) (take_weights left ns))
+      (drop_more numbers place d lt)
       ∙ ap (taken_behind (slice_range numbers from place)) (take_step left (get_or numbers place d) (drop (place + 1) numbers) h)
-      ∙ sym (taken_behind-push (slice_range numbers from place) (get_or numbers place d) (take_weights (left - (get_or numbers place d).value) (drop (place + 1) numbers)))
+      ∙ sym (taken_behind-push (slice_range numbers from place) (get_or numbers place d)
+      (take_weights (left - (get_or numbers place d).value) (drop (place + 1) numbers)))
       ∙ ap (λ (ns : List LineNumber). taken_behind ns (take_weights (left - (get_or numbers place d).value) (drop (place + 1) numbers)))
       (sym (range_more numbers from place d le lt))
 
   -- the sum is reached before a number that isn't taken, or it is exceeded
-  pub weights_stop : from ≤ place → place < length numbers → left < (get_or numbers place d).value → left ≡ 0 → TakesUpTo numbers from degree place
+  pub weights_stop : from ≤ place → place < length numbers → left < (get_or numbers place d).value → left ≡ 0
+      → TakesUpTo numbers from degree place
   weights_stop le lt h none = record {
     least = le;
     most = omega arith;
-    taken = so_far ∙ ap (λ (ns : List LineNumber). taken_behind (slice_range numbers from place) (take_weights left ns)) (drop_more numbers place d lt)
+    taken = so_far ∙ ap (λ (ns : List LineNumber). taken_behind (slice_range numbers from place) (take_weights left ns))
+        (drop_more numbers place d lt)
         ∙ ap (taken_behind (slice_range numbers from place)) (take_stop left (get_or numbers place d) (drop (place + 1) numbers) h)
-        ∙ ap (λ (b : Bool). taken_behind (slice_range numbers from place) (cond b (Some (record { weights = []; rest = get_or numbers place d ∷ drop (place + 1) numbers })) None)) zero_left
+        ∙ ap (λ (b : Bool). taken_behind (slice_range numbers from place)
+        (cond b (Some (record { weights = []; rest = get_or numbers place d ∷ drop (place + 1) numbers })) None)) zero_left
         ∙ taken_behind-end (slice_range numbers from place) (get_or numbers place d ∷ drop (place + 1) numbers)
-        ∙ ap (λ (ns : List LineNumber). Some (record { weights = slice_range numbers from place; rest = ns })) (sym (drop_more numbers place d lt));
+        ∙ ap (λ (ns : List LineNumber). Some (record { weights = slice_range numbers from place; rest = ns }))
+        (sym (drop_more numbers place d lt));
   }
     where
       zero_left : (left == 0) ≡ true
       zero_left = grind (arith, nat_tests)
 
-  pub weights_exceed : place < length numbers → left < (get_or numbers place d).value → 0 < left → take_weights degree (drop from numbers) ≡ None
+  pub weights_exceed : place < length numbers → left < (get_or numbers place d).value → 0 < left
+      → take_weights degree (drop from numbers) ≡ None
   weights_exceed lt h some =
-      so_far ∙ ap (λ (ns : List LineNumber). taken_behind (slice_range numbers from place) (take_weights left ns)) (drop_more numbers place d lt)
+      so_far ∙ ap (λ (ns : List LineNumber). taken_behind (slice_range numbers from place) (take_weights left ns))
+      (drop_more numbers place d lt)
       ∙ ap (taken_behind (slice_range numbers from place)) (take_stop left (get_or numbers place d) (drop (place + 1) numbers) h)
-      ∙ ap (λ (b : Bool). taken_behind (slice_range numbers from place) (cond b (Some (record { weights = []; rest = get_or numbers place d ∷ drop (place + 1) numbers })) None)) some_left
+      ∙ ap (λ (b : Bool). taken_behind (slice_range numbers from place)
+      (cond b (Some (record { weights = []; rest = get_or numbers place d ∷ drop (place + 1) numbers })) None)) some_left
       ∙ taken_behind-none (slice_range numbers from place)
     where
       some_left : (left == 0) ≡ false
@@ -124,7 +136,8 @@ module _ (numbers : List LineNumber) (from degree left place : ℕ) (d : LineNum
     least = le;
     most = omega arith;
     taken = so_far ∙ ap (λ (ns : List LineNumber). taken_behind (slice_range numbers from place) (take_weights left ns)) nothing
-        ∙ ap (λ (b : Bool). taken_behind (slice_range numbers from place) (cond b (Some (record { weights = []; rest = [] })) None)) zero_left
+        ∙ ap (λ (b : Bool). taken_behind (slice_range numbers from place) (cond b (Some (record { weights = []; rest = [] })) None))
+        zero_left
         ∙ taken_behind-end (slice_range numbers from place) []
         ∙ ap (λ (ns : List LineNumber). Some (record { weights = slice_range numbers from place; rest = ns })) (sym nothing);
   }
@@ -137,7 +150,8 @@ module _ (numbers : List LineNumber) (from degree left place : ℕ) (d : LineNum
 
   pub weights_short : place ≡ length numbers → 0 < left → take_weights degree (drop from numbers) ≡ None
   weights_short all some =
-      so_far ∙ ap (λ (ns : List LineNumber). taken_behind (slice_range numbers from place) (take_weights left ns)) (drop_all place numbers (omega arith))
+      so_far ∙ ap (λ (ns : List LineNumber). taken_behind (slice_range numbers from place) (take_weights left ns))
+      (drop_all place numbers (omega arith))
       ∙ ap (λ (b : Bool). taken_behind (slice_range numbers from place) (cond b (Some (record { weights = []; rest = [] })) None)) some_left
       ∙ taken_behind-none (slice_range numbers from place)
     where
@@ -192,7 +206,8 @@ module _ (numbers : List LineNumber) (place : ℕ) (systems : List KeptSystem) (
   so_far : systems_read (length numbers) numbers
       ≡ systems_behind (map placed_of systems) (systems_read (suc (s.most - 1)) (get_or numbers place d ∷ drop (place + 1) numbers))
   so_far = s.so_far ∙ ap (λ (n : ℕ). systems_behind (map placed_of systems) (systems_read n (drop place numbers))) most_is
-      ∙ ap (λ (ns : List LineNumber). systems_behind (map placed_of systems) (systems_read (suc (s.most - 1)) ns)) (drop_more numbers place d lt)
+      ∙ ap (λ (ns : List LineNumber). systems_behind (map placed_of systems) (systems_read (suc (s.most - 1)) ns))
+      (drop_more numbers place d lt)
 
   -- a degree whose weights don't sum to it
   pub systems_wrong : take_weights (get_or numbers place d).value (drop (place + 1) numbers) ≡ None
@@ -202,7 +217,8 @@ module _ (numbers : List LineNumber) (place : ℕ) (systems : List KeptSystem) (
       ∙ systems_behind-wrong (map placed_of systems) (get_or numbers place d).at)
 
   -- one system more
-  pub systems_more : (end : ℕ) (system : KeptSystem) (now : List KeptSystem) → TakesUpTo numbers (place + 1) (get_or numbers place d).value end
+  pub systems_more : (end : ℕ) (system : KeptSystem) (now : List KeptSystem)
+      → TakesUpTo numbers (place + 1) (get_or numbers place d).value end
       → placed_of system ≡ record { degree = get_or numbers place d; weights = slice_range numbers (place + 1) end }
       → now ≡ systems ++ system ∷ [] → SystemsSoFar numbers end now
   systems_more end system now takes is n = record {
@@ -210,7 +226,8 @@ module _ (numbers : List LineNumber) (place : ℕ) (systems : List KeptSystem) (
     most = s.most - 1;
     enough = let e = simp length-drop at s.enough in let l = takes.least in simp length-drop (omega arith);
     so_far = so_far
-        ∙ ap (systems_behind (map placed_of systems)) (read_step (s.most - 1) (get_or numbers place d) (drop (place + 1) numbers) _ takes.taken
+        ∙ ap (systems_behind (map placed_of systems))
+        (read_step (s.most - 1) (get_or numbers place d) (drop (place + 1) numbers) _ takes.taken
         ∙ ap (λ (p : PlacedSystem). before_systems p (systems_read (s.most - 1) (drop end numbers))) (sym is))
         ∙ sym (systems_behind-push (map placed_of systems) (placed_of system) (systems_read (s.most - 1) (drop end numbers)))
         ∙ ap (λ (ps : List PlacedSystem). systems_behind ps (systems_read (s.most - 1) (drop end numbers)))
@@ -218,7 +235,8 @@ module _ (numbers : List LineNumber) (place : ℕ) (systems : List KeptSystem) (
   }
 
 -- all numbers are read
-pub systems_end : (numbers : List LineNumber) (place : ℕ) (systems : List KeptSystem) → SystemsSoFar numbers place systems → length numbers ≤ place
+pub systems_end : (numbers : List LineNumber) (place : ℕ) (systems : List KeptSystem) → SystemsSoFar numbers place systems
+    → length numbers ≤ place
     → Summed (map placed_of systems) ≡ systems_read (length numbers) numbers
 systems_end numbers place systems s all = sym (s.so_far
     ∙ ap (λ (ns : List LineNumber). systems_behind (map placed_of systems) (systems_read s.most ns)) (drop_all place numbers all)

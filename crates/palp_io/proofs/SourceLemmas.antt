@@ -30,13 +30,15 @@ trans_front : (l m n : Option (List ℕ)) (a b : List ℕ) → l ≡ prepend_kno
 trans_front l m None a b first second = first ∙ ap (prepend_known a) second
 trans_front l m (Some zs) a b first second = first ∙ ap (prepend_known a) second ∙ ap Some (sym (append_assoc a b zs))
 
-trans_back : (m n : Option (List ℕ)) (t u v a b : List ℕ) → OnSome m (u ≡ t ++ a) → m ≡ prepend_known b n → OnSome n (v ≡ u ++ b) → OnSome n (v ≡ t ++ (a ++ b))
+trans_back : (m n : Option (List ℕ)) (t u v a b : List ℕ) → OnSome m (u ≡ t ++ a) → m ≡ prepend_known b n → OnSome n (v ≡ u ++ b)
+    → OnSome n (v ≡ t ++ (a ++ b))
 trans_back m None t u v a b first told second = tt
 trans_back None (Some zs) t u v a b first told second = cc
 trans_back (Some ys) (Some zs) t u v a b first told second =
     second ∙ ap (λ (xs : List ℕ). xs ++ b) first ∙ append_assoc t a b
 
-pub Passes-trans : (before between now : SourceState) (a b : List ℕ) → Passes before between a → Passes between now b → Passes before now (a ++ b)
+pub Passes-trans : (before between now : SourceState) (a b : List ℕ) → Passes before between a → Passes between now b
+    → Passes before now (a ++ b)
 Passes-trans before between now a b first second = record {
   front = trans_front before.left between.left now.left a b first.front second.front;
   back = trans_back between.left now.left before.taken between.taken now.taken a b first.back second.front second.back;
@@ -81,7 +83,8 @@ ends_exactly Failed buf before now left tells takes not_failed =
     absurd (not_failed refl)
 
 -- a place in a list that moves up passes the bytes between
-pub PassesBytes-advance : (bytes : List ℕ) (at n : ℕ) (given : List ℕ) → given ≡ take n (drop at bytes) → PassesBytes (drop at bytes) (take at bytes) (drop (at + n) bytes) (take (at + n) bytes) given
+pub PassesBytes-advance : (bytes : List ℕ) (at n : ℕ) (given : List ℕ) → given ≡ take n (drop at bytes)
+    → PassesBytes (drop at bytes) (take at bytes) (drop (at + n) bytes) (take (at + n) bytes) given
 PassesBytes-advance bytes at n given is_next =
     let whole = take-append-drop n (drop at bytes) in
     let rest = drop-drop n at bytes in

@@ -31,7 +31,8 @@ Appends-kept (Some xs) (Some ys) None a first kept = absurd kept
 Appends-kept (Some xs) (Some ys) (Some zs) a first kept = cc
 
 -- some more of the rest was written, and as many bytes are left as there were behind them
-pub Written-more : (piece rest : List ℕ) (g h k : Option (List ℕ)) (n m : ℕ) → m ≡ length rest - n → Written piece rest g h → Appends h k (take n rest) → Written piece (take m (drop n rest)) g k
+pub Written-more : (piece rest : List ℕ) (g h k : Option (List ℕ)) (n m : ℕ) → m ≡ length rest - n → Written piece rest g h
+    → Appends h k (take n rest) → Written piece (take m (drop n rest)) g k
 Written-more piece rest g h k n m all so_far more =
     let size = length-drop n rest in
     let whole : m ≡ length (drop n rest) = omega arith in

@@ -11,11 +11,13 @@ returns-in-Nothing c =
 pub returns-in-BadByte : goal.returns-in-BadByte
 returns-in-BadByte c = record {
   within = omega (arith, c.in-BadByte.ensures.within.most, c.in-BadByte.ensures.within.some);
-  is_next = byte_starts c.args.text.now c.in-BadByte.at _ (omega (arith, c.in-BadByte.ensures.within.most)) c.in-BadByte.ensures.means c.in-BadByte.ensures.begins;
+  is_next = byte_starts c.args.text.now c.in-BadByte.at _ (omega (arith, c.in-BadByte.ensures.within.most))
+      c.in-BadByte.ensures.means c.in-BadByte.ensures.begins;
 }
 
 pub returns-in-Word : goal.returns-in-Word
 returns-in-Word c = record {
   within = omega (arith, c.in-Word.ensures.within.most, c.in-Word.ensures.within.some);
-  is_next = token_starts c.args.text.now c.in-Word.token _ (omega (arith, c.in-Word.ensures.within.most, c.in-Word.ensures.within.some)) c.in-Word.ensures.means c.in-Word.ensures.begins;
+  is_next = token_starts c.args.text.now c.in-Word.token _ (omega (arith, c.in-Word.ensures.within.most, c.in-Word.ensures.within.some))
+      c.in-Word.ensures.means c.in-Word.ensures.begins;
 }

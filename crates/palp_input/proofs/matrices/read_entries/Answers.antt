@@ -18,7 +18,8 @@ loop-left-preserved c =
       so_far = entries_more _ c.loop-left.entries.items c.push.new.self.items c.in-Entry.entry _
           (matrix_read text (left - 1) c.in-Entry.end (pieces_of c.in-Entry.end (drop c.in-Entry.end text)))
           c.loop-left.invariant.so_far
-          (ap (λ (n : ℕ). matrix_read text n place (pieces_of place (drop place text))) (at_least_one left c.loop-left-test.true) ∙ next.reads (left - 1) place)
+          (ap (λ (n : ℕ). matrix_read text n place (pieces_of place (drop place text))) (at_least_one left c.loop-left-test.true)
+          ∙ next.reads (left - 1) place)
           (c.in_ok-push-in-Entry.ensures.items
           ∙ ap (λ (z : ℤ). c.loop-left.entries.items ++ z ∷ []) (to_z-of_z w64 c.in-Entry.entry fits));
     }
@@ -30,7 +31,8 @@ returns-in-Fault-clause-means c =
     let left = c.loop-left.left in
     let entries = c.loop-left.entries.items in
     sym (c.loop-left.invariant.so_far
-    ∙ ap (λ (n : ℕ). matrix_behind entries (matrix_read text n place (pieces_of place (drop place text)))) (at_least_one left c.loop-left-test.true)
+    ∙ ap (λ (n : ℕ). matrix_behind entries (matrix_read text n place (pieces_of place (drop place text))))
+    (at_least_one left c.loop-left-test.true)
     ∙ ap (matrix_behind entries) (c.in-Fault.ensures.means (left - 1) place) ∙ matrix_behind-fault entries c.in-Fault.fault)
 
 pub returns-in-Missing-clause-means : goal.returns-in-Missing-clause-means
@@ -40,7 +42,8 @@ returns-in-Missing-clause-means c =
     let left = c.loop-left.left in
     let entries = c.loop-left.entries.items in
     sym (c.loop-left.invariant.so_far
-    ∙ ap (λ (n : ℕ). matrix_behind entries (matrix_read text n place (pieces_of place (drop place text)))) (at_least_one left c.loop-left-test.true)
+    ∙ ap (λ (n : ℕ). matrix_behind entries (matrix_read text n place (pieces_of place (drop place text))))
+    (at_least_one left c.loop-left-test.true)
     ∙ ap (matrix_behind entries) (c.in-Missing.ensures.means (left - 1) place) ∙ matrix_behind-missing entries)
 
 pub returns-clause-means : goal.returns-clause-means

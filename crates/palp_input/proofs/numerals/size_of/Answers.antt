@@ -11,5 +11,6 @@ loop-digit-preserved c =
     let i = c.loop-digit.digit-index in
     record {
       written = c.min-size.ensures ∙ size_step digits i _ _ c.loop-digit-test.true is_digit c.loop-digit.invariant.written c.from.ensures;
-      rest = c.loop-digit.invariant.rest ∙ (at_drop_more all_ascii_digits digits i 0 c.loop-digit-test.true ∙ ap (λ (b : Bool). b && all_ascii_digits (drop (i + 1) digits)) is_digit);
+      rest = c.loop-digit.invariant.rest ∙ (at_drop_more all_ascii_digits digits i 0 c.loop-digit-test.true
+          ∙ ap (λ (b : Bool). b && all_ascii_digits (drop (i + 1) digits)) is_digit);
     }

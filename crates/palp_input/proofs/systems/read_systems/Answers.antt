@@ -9,7 +9,8 @@ none = record { at = 0; value = 0 }
 pub returns-in_default : goal.returns-in_default
 unfolding none
 returns-in_default c =
-    systems_wrong c.args.numbers.now c.loop-place.place c.loop-place.systems.items none c.loop-place.invariant c.loop-place-test.true c.in_default.ensures
+    systems_wrong c.args.numbers.now c.loop-place.place c.loop-place.systems.items none c.loop-place.invariant c.loop-place-test.true
+    c.in_default.ensures
 
 pub loop-place-preserved : goal.loop-place-preserved
 unfolding none

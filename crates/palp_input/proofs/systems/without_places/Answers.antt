@@ -11,4 +11,5 @@ unfolding none
 loop-system-preserved c =
     placed_more c.loop-system.items.items c.push.new.self.items c.args.systems.now c.loop-system.system-index none _
     c.loop-system.invariant c.loop-system-test.true c.in_ok-push.ensures.items
-    (ap (λ (ws : List ℕ). record { degree = (get_or c.args.systems.now c.loop-system.system-index none).degree.value; weights = ws }) c.in_ok-weights.ensures)
+    (ap (λ (ws : List ℕ). record { degree = (get_or c.args.systems.now c.loop-system.system-index none).degree.value; weights = ws })
+    c.in_ok-weights.ensures)

@@ -17,7 +17,8 @@ pub returns-in-Err : goal.returns-in-Err
 returns-in-Err g c =
     held_fault c.args.self.now c.held_item.new.self (g.S.Source.state c.args.src.now) c.requires.handed
     (held_most _ _ _ _ _ _ c.args.self.now c.self.invariant c.self.view_is).0 c.in-Err.fault
-    (subst (λ (s : ReaderState). HeldMeans (Err c.in-Err.fault) s c.held_item.new.self) (begun _ c.args.self.now c.self.view_is) c.in-Err.ensures)
+    (subst (λ (s : ReaderState). HeldMeans (Err c.in-Err.fault) s c.held_item.new.self) (begun _ c.args.self.now c.self.view_is)
+    c.in-Err.ensures)
 
 pub returns-in-Ok-Some : goal.returns-in-Ok-Some
 returns-in-Ok-Some g c =
@@ -28,6 +29,8 @@ returns-in-Ok-Some g c =
 
 pub returns-in-Ok : goal.returns-in-Ok
 returns-in-Ok g c =
-    last_answer c.args.self.now c.held_item.new.self c.take_all.new.self c.last_item.new.self c.last_item.result (g.S.Source.state c.args.src.now)
+    last_answer c.args.self.now c.held_item.new.self c.take_all.new.self c.last_item.new.self c.last_item.result
+    (g.S.Source.state c.args.src.now)
     (g.S.Source.state c.take_all.new.src) (held_most _ _ _ _ _ _ c.args.self.now c.self.invariant c.self.view_is).1
-    (told c.in-Ok-None.field-0 None _ c.held_item.new.self c.in-Ok-None.field-0-is c.in-Ok-None.ensures ∙ begun _ c.args.self.now c.self.view_is) c.in-Ok.ensures c.last_item.ensures
+    (told c.in-Ok-None.field-0 None _ c.held_item.new.self c.in-Ok-None.field-0-is c.in-Ok-None.ensures
+    ∙ begun _ c.args.self.now c.self.view_is) c.in-Ok.ensures c.last_item.ensures
