@@ -3,7 +3,7 @@
 ghost use Rattle.std.specs.Prelude.{◌≡◌, ◌*◌, length, IfOk, MatchResult};
 ghost use Rattle.lattice_core.specs.Weights.{weighted_all, AreWellFormed};
 ghost use Rattle.palp_input.specs.Grammar.{ListedWeights, ListedPoints, listed};
-ghost use Rattle.palp_input.specs.Laws.{IsItem};
+ghost use Rattle.palp_input.specs.Items.{IsItem};
 ghost use Rattle.item_points.specs.Points.{HasPoints, IsPointsRefusal, AreItemPoints};
 ghost use Rattle.lattice_core.specs.Stops.{Stops};
 

@@ -3,7 +3,7 @@
 ghost use Rattle.std.specs.Prelude.{IfOk};
 ghost use Rattle.lattice_core.specs.Weights.{weighted_all, AreWellFormed};
 ghost use Rattle.palp_input.specs.Grammar.{listed};
-ghost use Rattle.palp_input.specs.Laws.{IsItem};
+ghost use Rattle.palp_input.specs.Items.{IsItem};
 
 use crate::{points_of_item, points_of_matrix, points_of_systems};
 use lattice_core::WeightSystem;

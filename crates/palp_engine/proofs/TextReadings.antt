@@ -10,7 +10,8 @@ use Rattle.palp_io.proofs.SourceLemmas.{Passes-none, Passes-trans}
 use Rattle.palp_io.proofs.FaultLemmas.{Rose-late}
 use Rattle.palp_input.specs.Grammar.{listed, TextEnd, End, FaultEnd, TooLongEnd, TextRead, read_text, no_more, line_feeds, most_bytes}
 use Rattle.palp_input.specs.Reading.{ReaderState, NextMeans, GivesItem}
-use Rattle.palp_input.specs.Laws.{IsItem, reading_of, ReadsItem}
+use Rattle.palp_input.specs.Items.{IsItem}
+use Rattle.palp_input.specs.Answers.{reading_of, ReadsItem}
 use Rattle.palp_input.specs.declared.fault.NextFault.{NextFault}
 use Rattle.palp_input.specs.declared.fault.NextFault.TheVariants.{Text, TooLong, Read, NoMemory}
 use Rattle.palp_input.specs.declared.item.Item.{Item}

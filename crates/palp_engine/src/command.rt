@@ -5,7 +5,7 @@ ghost use Rattle.std.specs.List.{All};
 ghost use Rattle.std.specs.String.{string_bytes};
 ghost use Rattle.palp_io.specs.Faults.{Rose};
 ghost use Rattle.palp_input.specs.Grammar.{listed};
-ghost use Rattle.palp_input.specs.Laws.{IsItem};
+ghost use Rattle.palp_input.specs.Items.{IsItem};
 ghost use Rattle.palp_engine.specs.Commands.{IsBuilt};
 ghost use Rattle.palp_engine.specs.Notes.{note_line, IsNoted};
 ghost use Rattle.palp_engine.specs.Texts.{outcome_of};

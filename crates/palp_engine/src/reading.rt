@@ -3,7 +3,7 @@
 ghost use Rattle.std.specs.Prelude.{IfOk};
 ghost use Rattle.std.specs.List.{All};
 ghost use Rattle.palp_input.specs.Grammar.{listed};
-ghost use Rattle.palp_input.specs.Laws.{IsItem};
+ghost use Rattle.palp_input.specs.Items.{IsItem};
 ghost use Rattle.palp_engine.specs.Readings.{IsTaking, ReadingMeans};
 
 use palp_input::{Item, NextFault, Reader, TextFault};

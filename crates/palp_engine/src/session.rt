@@ -5,7 +5,7 @@ ghost use Rattle.lattice_theory.specs.Vector.{HaveDimension};
 ghost use Rattle.lattice_core.specs.Dimensions.{dimension_of};
 ghost use Rattle.lattice_core.specs.Weights.{weighted_all};
 ghost use Rattle.palp_input.specs.Grammar.{listed};
-ghost use Rattle.palp_input.specs.Laws.{IsItem};
+ghost use Rattle.palp_input.specs.Items.{IsItem};
 ghost use Rattle.palp_engine.specs.Commands.{IsBuilt};
 ghost use Rattle.palp_engine.specs.Items.{HasPoints, IsPiece, echo, line_numbers, numbers_text};
 ghost use Rattle.palp_engine.specs.Stops.{StopsInput, StopsItem};

@@ -2,7 +2,7 @@
 
 ghost use Rattle.std.specs.Prelude.{IfOk};
 ghost use Rattle.palp_input.specs.Grammar.{listed};
-ghost use Rattle.palp_input.specs.Laws.{IsItem};
+ghost use Rattle.palp_input.specs.Items.{IsItem};
 
 use crate::reading::read_all;
 use crate::{ItemFault, Outcome, Session, report_item, run};

@@ -13,7 +13,8 @@ use Rattle.palp_input.specs.Numerals.{bound, is_digits, numeral_of_digits, numer
 use Rattle.palp_input.specs.Lines.{LineRead, LeadingNumbers, FaultyLine, before_line, line_read, line_token, fault_at, MatrixRead, AllEntries, FaultyMatrix, MissingEntries, before_entries, matrix_read, matrix_token}
 use Rattle.palp_input.specs.Systems.{Taken, before_taken, take_weights, PlacedSystem, SystemsRead, Summed, WrongSum, before_systems, systems_read, other_length, weight_at, is_zero_column, zero_column, weighted_of}
 use Rattle.palp_input.specs.Grammar.{ListedWeights, ListedPoints, Next, Nothing, Given, Faulty, systems_item, matrix_item, weights_item, numbers_item, line_item, pieces_item}
-use Rattle.palp_input.specs.Laws.{HasSmallNumbers, IsItem, ItemsAreItems}
+use Rattle.palp_input.specs.Items.{HasSmallNumbers, IsItem}
+use Rattle.palp_input.specs.Laws.{ItemsAreItems}
 use Rattle.palp_input.specs.declared.pieces.Piece.{Piece}
 use Rattle.palp_input.specs.declared.pieces.Piece.TheVariants.{Token, Wrong, LineEnd}
 use Rattle.palp_input.specs.declared.numerals.Numeral.{Numeral}

@@ -5,7 +5,8 @@ use Rattle.std.proofs.lemmas.List.{map-append}
 use Rattle.palp_input.specs.Lines.{fault_at}
 use Rattle.palp_input.specs.Systems.{Taken, before_taken, take_weights, PlacedSystem, SystemsRead, Summed, WrongSum, before_systems, systems_read, other_length, zero_column, weighted_of}
 use Rattle.palp_input.specs.Grammar.{ListedWeights, ListedPoints, Next, Nothing, Given, Faulty, systems_item}
-use Rattle.palp_input.specs.Laws.{numbers_of, numbers_in, SystemsKeepNumbers, ItemsKeepNumbers}
+use Rattle.palp_input.specs.Systems.{numbers_of, numbers_in}
+use Rattle.palp_input.specs.Laws.{SystemsKeepNumbers, ItemsKeepNumbers}
 use Rattle.palp_input.specs.declared.lines.LineNumber.{LineNumber}
 use Rattle.palp_input.specs.declared.fault.TextKind.TheVariants.{Lengths, ZeroColumn}
 

@@ -8,7 +8,8 @@ use Rattle.palp_io.specs.Source.{SourceState}
 use Rattle.palp_input.specs.Pieces.{line_feed}
 use Rattle.palp_input.specs.declared.fault.ItemFault.{ItemFault}
 use Rattle.std.proofs.lemmas.Bool.{cases_eq}
-use Rattle.palp_input.specs.Laws.{HasAllItems, GoesOn, Ends, EndsFaulty, EndsTooLong, reading_of, CallsRead, CallsReadTaken, IsAnswer, CallsAnswer}
+use Rattle.palp_input.specs.Answers.{reading_of, IsAnswer}
+use Rattle.palp_input.specs.Laws.{HasAllItems, GoesOn, Ends, EndsFaulty, EndsTooLong, CallsRead, CallsReadTaken, CallsAnswer}
 use Rattle.palp_input.specs.declared.fault.TextFault.{TextFault}
 use Rattle.palp_input.specs.declared.fault.NextFault.{NextFault}
 use Rattle.palp_input.specs.declared.fault.NextFault.TheVariants.{Text, TooLong, Read, NoMemory}

@@ -6,7 +6,9 @@ pub mod Numerals
 pub mod Lines
 pub mod Systems
 pub mod Grammar
+pub mod Items
 pub mod Reading
+pub mod Answers
 pub mod Laws
 pub mod ReaderSteps
 pub mod LineSteps

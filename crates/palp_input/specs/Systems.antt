@@ -1,6 +1,6 @@
 -- The weight systems of a line of numbers. Weight lines follow PALP's manual, arXiv:1205.4147, section 3;
 -- where a system ends, and the faults, are this project's own.
-use Rattle.std.specs.Prelude.{ℕ, ◌+◌, ◌-◌, Bool, List, [], ◌∷◌, map, length, zero, suc, Option, Some, None, if◌then◌else◌, ◌==◌, nat_le}
+use Rattle.std.specs.Prelude.{◌++◌, ℕ, ◌+◌, ◌-◌, Bool, List, [], ◌∷◌, map, length, zero, suc, Option, Some, None, if◌then◌else◌, ◌==◌, nat_le}
 use Rattle.std.specs.List.{list_all}
 use Rattle.lattice_core.specs.Weights.{Weighted}
 use Rattle.palp_input.specs.declared.lines.LineNumber.{LineNumber}
@@ -70,3 +70,12 @@ zero_column place (number ∷ numbers) systems =
 
 abbrev pub weighted_of : PlacedSystem → Weighted
 weighted_of system = record { degree = system.degree.value; weights = map (λ (n : LineNumber). n.value) system.weights }
+
+-- the numbers that write systems: one system after another, its degree and then its weights
+abbrev pub numbers_of : List PlacedSystem → List LineNumber
+numbers_of [] = []
+numbers_of (system ∷ systems) = system.degree ∷ (system.weights ++ numbers_of systems)
+
+abbrev pub numbers_in : List Weighted → List ℕ
+numbers_in [] = []
+numbers_in (system ∷ systems) = system.degree ∷ (system.weights ++ numbers_in systems)
