@@ -18,7 +18,8 @@ use Rattle.normal_bounds.proofs.Numbers.{values_fit_lem}
 use Rattle.normal_bounds.proofs.Products.{functions_fit_lem, combine_products_fit_lem}
 use Rattle.lattice_core.specs.Limits.{size_limit_of}
 use Rattle.lattice_core.specs.Divisors.{IsPrimitivePart}
-use Rattle.lattice_core.specs.Combine.{IsPositiveCombination, IsCombinationAt, AreOpposite, twice_limit, IsSmallAt, IsFixedWithinLimit, IsCrossSum}
+use Rattle.lattice_core.specs.Combine.{IsPositiveCombination, IsCombinationAt, AreOpposite, twice_limit, IsSmallAt, IsFixedWithinLimit}
+use Rattle.lattice_core.specs.CombineSteps.{IsCrossSum}
 use Rattle.lattice_core.proofs.SizeLimits.{limit_positive}
 
 -- the absolute sum of a vector with small entries

@@ -48,7 +48,3 @@ pub record HasFixedCombination (f g : Affine) (p : List ℤ) : Type 0 where
   pub function : Affine
   pub combination : IsCombinationAt f g p function
   pub fixed : IsFixedWithinLimit (length p) function
-
--- s is the sum of the two normals, each times the absolute value of the other function at the point
-abbrev pub IsCrossSum : Affine → Affine → List ℤ → List ℤ → Type 0
-IsCrossSum f g p s = (i : ℕ) → entry s i ≡ pos (nat_abs (value g p)) *ℤ entry f.normal i +ℤ pos (nat_abs (value f p)) *ℤ entry g.normal i

@@ -6,3 +6,4 @@ pub mod Dimensions
 pub mod PointLists
 pub mod Weights
 pub mod Combine
+pub mod CombineSteps

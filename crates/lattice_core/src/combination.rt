@@ -4,10 +4,12 @@ ghost use Rattle.std.specs.List.{All};
 ghost use Rattle.lattice_theory.specs.Vector.{dot, entry};
 ghost use Rattle.lattice_theory.specs.Affine.{Affine, value};
 ghost use Rattle.lattice_theory.specs.Size.{absolute_sum};
-ghost use Rattle.lattice_core.specs.Combine.{AreOpposite, HasFixedCombination, IsCombinationAt, IsCrossSum, IsSmallAt};
+ghost use Rattle.lattice_core.specs.Combine.{AreOpposite, HasFixedCombination, IsCombinationAt, IsSmallAt};
+ghost use Rattle.lattice_core.specs.CombineSteps.{IsCrossSum};
+ghost use Rattle.lattice_core.specs.declared.limits.TheConstants.{MOST_COORDINATES};
 
-use crate::pairing::wide_pair;
-use crate::{Functional, Point, narrowed, primitive};
+use crate::MOST_COORDINATES;
+use crate::{Functional, Point, narrowed, pair, primitive};
 use arrayvec::ArrayVec;
 
 /// The function with a normal of greatest common divisor 1 that vanishes at `p` and is a positive rational combination of `f` and `g`, whose
@@ -25,7 +27,7 @@ pub fn combine(f: &Functional, g: &Functional, p: &Point) -> Functional
 }
 
 /// The combination's normal.
-fn combined_normal(f: &Functional, g: &Functional, p: &Point) -> ArrayVec<i64, 6>
+fn combined_normal(f: &Functional, g: &Functional, p: &Point) -> ArrayVec<i64, MOST_COORDINATES>
     requires opposite { AreOpposite (value f.now p.now) (value g.now p.now) }
     requires left { IsSmallAt p.now f.now }
     requires right { IsSmallAt p.now g.now }
@@ -40,12 +42,12 @@ fn combined_normal(f: &Functional, g: &Functional, p: &Point) -> ArrayVec<i64, 6
 }
 
 /// The sum of the two normals, each times the absolute value of the other function at the point.
-fn cross_sum(f: &Functional, g: &Functional, p: &Point) -> ArrayVec<i128, 6>
+fn cross_sum(f: &Functional, g: &Functional, p: &Point) -> ArrayVec<i128, MOST_COORDINATES>
     requires left { IsSmallAt p.now f.now }
     requires right { IsSmallAt p.now g.now }
     ensures length { length result.items ≡ length p.now }
     ensures least { 1 ≤ length result.items }
-    ensures most { length result.items ≤ 6 }
+    ensures most { length result.items ≤ MOST_COORDINATES }
     ensures entries { IsCrossSum f.now g.now p.now result.items }
     ensures small { All (λ x. nat_abs x < 2 ^ 127) result.items }
 {
@@ -59,14 +61,14 @@ fn absolute_value(f: &Functional, p: &Point) -> i128
     requires { IsSmallAt p.now f.now }
     ensures { result ≡ pos (nat_abs (value f.now p.now)) }
 {
-    let pairing = wide_pair(p.entries(), f.normal());
+    let pairing = pair(p.entries(), f.normal());
     (pairing + f.constant()).abs()
 }
 
 /// A multiple of the first vector and a multiple of the second, added.
-fn sum_of_multiples(left: i128, a: &[i64], right: i128, b: &[i64]) -> ArrayVec<i128, 6>
+fn sum_of_multiples(left: i128, a: &[i64], right: i128, b: &[i64]) -> ArrayVec<i128, MOST_COORDINATES>
     requires same_length { length a.now ≡ length b.now }
-    requires most { length a.now ≤ 6 }
+    requires most { length a.now ≤ MOST_COORDINATES }
     requires first { All (λ x. nat_abs (left *ℤ x) < 2 ^ 126) a.now }
     requires second { All (λ x. nat_abs (right *ℤ x) < 2 ^ 126) b.now }
     ensures length { length result.items ≡ length a.now }
@@ -98,7 +100,7 @@ fn through(normal: &[i64], p: &Point) -> Functional
     ensures normal { result.normal ≡ normal.now }
     ensures constant { result.constant ≡ neg_ℤ (dot p.now normal.now) }
 {
-    let constant = -wide_pair(p.entries(), normal);
+    let constant = -pair(p.entries(), normal);
     match Functional::new(normal, constant) {
         Some(function) => function,
         None => unreachable!(),

@@ -3,7 +3,9 @@ ghost use Rattle.std.specs.Prelude.{◌≡◌, ℕ, ◌<◌, ◌≤◌, ◌^◌,
 ghost use Rattle.std.specs.Int.{◌∣◌, IsGcd};
 ghost use Rattle.std.specs.List.{All};
 ghost use Rattle.lattice_core.specs.Divisors.{IsPrimitivePart};
+ghost use Rattle.lattice_core.specs.declared.limits.TheConstants.{MOST_COORDINATES};
 
+use crate::MOST_COORDINATES;
 use arrayvec::ArrayVec;
 
 /// The largest number that fits a machine word.
@@ -59,9 +61,9 @@ fn common_divisor(v: &[i128]) -> u128
 
 /// The vector divided by the greatest common divisor of its entries, of which there are 1 to 6, none of them the least `i128`. It is `None`
 /// exactly where all entries are 0.
-pub fn primitive(v: &[i128]) -> Option<ArrayVec<i128, 6>>
+pub fn primitive(v: &[i128]) -> Option<ArrayVec<i128, MOST_COORDINATES>>
     requires least { 1 ≤ length v.now }
-    requires most { length v.now ≤ 6 }
+    requires most { length v.now ≤ MOST_COORDINATES }
     requires small { All (λ a. nat_abs a < 2 ^ 127) v.now }
     ensures variant { IsNone result ↔ All (λ a. a ≡ pos 0) v.now }
     ensures part { IfSome result (λ w. IsPrimitivePart v.now w.items) }

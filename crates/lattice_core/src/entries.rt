@@ -1,12 +1,14 @@
 //! The entries of a point or of a normal.
 ghost use Rattle.std.specs.Prelude.{◌≡◌, ◌^◌, ◌<◌, ◌≤◌, length, nat_abs};
 ghost use Rattle.std.specs.List.{All};
+ghost use Rattle.lattice_core.specs.declared.limits.TheConstants.{MOST_COORDINATES};
 
+use crate::MOST_COORDINATES;
 use arrayvec::ArrayVec;
 
 /// These entries, of which there are at most 6.
-pub(crate) fn held(entries: &[i64]) -> ArrayVec<i64, 6>
-    requires { length entries.now ≤ 6 }
+pub(crate) fn held(entries: &[i64]) -> ArrayVec<i64, MOST_COORDINATES>
+    requires { length entries.now ≤ MOST_COORDINATES }
     ensures { result.items ≡ entries.now }
 {
     match ArrayVec::try_from(entries) {
@@ -16,8 +18,8 @@ pub(crate) fn held(entries: &[i64]) -> ArrayVec<i64, 6>
 }
 
 /// The same entries in 64 bits, for vectors of at most 6 entries that fit them.
-pub fn narrowed(vector: &[i128]) -> ArrayVec<i64, 6>
-    requires most { length vector.now ≤ 6 }
+pub fn narrowed(vector: &[i128]) -> ArrayVec<i64, MOST_COORDINATES>
+    requires most { length vector.now ≤ MOST_COORDINATES }
     requires small { All (λ a. nat_abs a < 2 ^ 63) vector.now }
     ensures { result.items ≡ vector.now }
 {
@@ -28,8 +30,8 @@ pub fn narrowed(vector: &[i128]) -> ArrayVec<i64, 6>
     entries
 }
 
-/// One entry in 64 bits.
-fn narrowed_entry(a: i128) -> i64
+/// The same number in 64 bits, which it fits.
+pub fn narrowed_entry(a: i128) -> i64
     requires { nat_abs a < 2 ^ 63 }
     ensures { result ≡ a }
 {

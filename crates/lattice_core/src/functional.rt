@@ -4,7 +4,9 @@ ghost use Rattle.lattice_theory.specs.Affine.{Affine, value};
 ghost use Rattle.lattice_theory.specs.Order.{FunctionLess};
 ghost use Rattle.lattice_theory.specs.Size.{absolute_sum};
 ghost use Rattle.lattice_core.specs.Compare.{Compares};
+ghost use Rattle.lattice_core.specs.declared.limits.TheConstants.{MOST_COORDINATES};
 
+use crate::MOST_COORDINATES;
 use crate::entries::held;
 use crate::{Point, pair};
 use arrayvec::ArrayVec;
@@ -15,11 +17,12 @@ use std::marker::Model;
 /// An affine function: a normal of 1 to 6 integers, and a constant. Contracts see the record of the two.
 #[derive(Debug, Drop, PartialEq, Eq, PartialOrd, Ord)]
 pub struct Functional {
-    normal: ArrayVec<i64, 6>,
+    normal: ArrayVec<i64, MOST_COORDINATES>,
     constant: i128,
 }
 
 impl Model for Functional {
+    ghost use Rattle.lattice_core.specs.declared.limits.TheConstants.{MOST_COORDINATES};
     ghost use Rattle.std.specs.Prelude.{◌≤◌, length};
     ghost use Rattle.lattice_theory.specs.Affine.{Affine};
 
@@ -27,7 +30,7 @@ impl Model for Functional {
 
     ghost view = { λ f. record { normal = f.normal.items; constant = f.constant } };
 
-    ghost invariant = { λ f. (1 ≤ length f.normal.items) × (length f.normal.items ≤ 6) };
+    ghost invariant = { λ f. (1 ≤ length f.normal.items) × (length f.normal.items ≤ MOST_COORDINATES) };
 
     ghost inverse = { λ f. record { normal = record { items = f.normal }; constant = f.constant } };
 }
@@ -45,10 +48,10 @@ impl Clone for Functional {
 impl Functional {
     /// The function with this normal and this constant. It is `None` exactly where the normal has no entry or more than 6.
     pub fn new(normal: &[i64], constant: i128) -> Option<Functional>
-        ensures variant { IsSome result ↔ ((1 ≤ length normal.now) × (length normal.now ≤ 6)) }
+        ensures variant { IsSome result ↔ ((1 ≤ length normal.now) × (length normal.now ≤ MOST_COORDINATES)) }
         ensures parts { IfSome result (λ f. (f.normal ≡ normal.now) × (f.constant ≡ constant)) }
     {
-        if normal.is_empty() || normal.len() > 6 {
+        if normal.is_empty() || normal.len() > MOST_COORDINATES {
             return None;
         }
         Some(Functional {
@@ -62,7 +65,7 @@ impl Functional {
     pub fn normal(&self) -> &[i64]
         ensures value { result.now ≡ self.now.normal }
         ensures least { 1 ≤ length result.now }
-        ensures most { length result.now ≤ 6 }
+        ensures most { length result.now ≤ MOST_COORDINATES }
     {
         self.normal.as_slice()
     }
@@ -80,7 +83,7 @@ impl Functional {
     pub fn dim(&self) -> usize
         ensures value { result ≡ length self.now.normal }
         ensures least { 1 ≤ result }
-        ensures most { result ≤ 6 }
+        ensures most { result ≤ MOST_COORDINATES }
     {
         self.normal.len()
     }

@@ -19,7 +19,7 @@ mod weights;
 pub use ascending::{ascending_functions, ascending_points};
 pub use combination::combine;
 pub use divisors::{gcd, primitive};
-pub use entries::narrowed;
+pub use entries::{narrowed, narrowed_entry};
 pub use faults::{Fault, LimitName, NoMemory, Refusal};
 pub use functional::Functional;
 pub use limits::{

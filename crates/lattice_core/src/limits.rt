@@ -1,6 +1,7 @@
 //! The limits of an item. This project's own.
 ghost use Rattle.std.specs.Prelude.{◌≡◌, ◌≤◌, pos};
 ghost use Rattle.lattice_core.specs.Limits.{size_limit_of};
+ghost use Rattle.lattice_core.specs.declared.limits.TheConstants.{MOST_COORDINATES};
 
 /// The most weight systems of a weight line.
 pub const MOST_SYSTEMS: usize = 6;
@@ -42,7 +43,7 @@ pub const MOST_POINTS: usize = 16_384;
 /// value. This project's own.
 pub fn size_limit(n: usize) -> i64
     requires least { 1 ≤ n }
-    requires most { n ≤ 6 }
+    requires most { n ≤ MOST_COORDINATES }
     ensures { result ≡ pos (size_limit_of n) }
 {
     match n {

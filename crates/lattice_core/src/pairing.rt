@@ -2,25 +2,14 @@
 ghost use Rattle.std.specs.Prelude.{◌≡◌, ◌^◌, ◌≤◌, ◌*◌, ◌*ℤ◌, length, nat_abs};
 ghost use Rattle.lattice_theory.specs.Vector.{dot};
 ghost use Rattle.lattice_theory.specs.Size.{absolute_sum};
+ghost use Rattle.lattice_core.specs.declared.limits.TheConstants.{MOST_COORDINATES};
 
 /// The sum of the products of the entries of two vectors of equal length, at most 6. The absolute values of the second vector's entries sum to
-/// at most 2^33, and the answer's is at most 2^96.
+/// at most 2^60; the answer is at most 2^63 times that sum in absolute value.
 #[inline]
 pub fn pair(a: &[i64], b: &[i64]) -> i128
     requires same_length { length a.now ≡ length b.now }
-    requires most { length b.now ≤ 6 }
-    requires small { absolute_sum b.now ≤ 2 ^ 33 }
-    ensures value { result ≡ dot a.now b.now }
-    ensures bound { nat_abs result ≤ 2 ^ 96 }
-{
-    wide_pair(a, b)
-}
-
-/// The same, where the second vector's absolute values may sum to 2^60.
-#[inline]
-pub(crate) fn wide_pair(a: &[i64], b: &[i64]) -> i128
-    requires same_length { length a.now ≡ length b.now }
-    requires most { length b.now ≤ 6 }
+    requires most { length b.now ≤ MOST_COORDINATES }
     requires small { absolute_sum b.now ≤ 2 ^ 60 }
     ensures value { result ≡ dot a.now b.now }
     ensures bound { nat_abs result ≤ 2 ^ 63 * absolute_sum b.now }

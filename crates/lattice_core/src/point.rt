@@ -3,7 +3,9 @@ ghost use Rattle.std.specs.Prelude.{◌≡◌, ◌<◌, ◌≤◌, ◌↔◌, le
 ghost use Rattle.lattice_theory.specs.Vector.{entry};
 ghost use Rattle.lattice_theory.specs.Order.{LexLess};
 ghost use Rattle.lattice_core.specs.Compare.{Compares};
+ghost use Rattle.lattice_core.specs.declared.limits.TheConstants.{MOST_COORDINATES};
 
+use crate::MOST_COORDINATES;
 use crate::entries::held;
 use arrayvec::ArrayVec;
 use std::alloc::AllocError;
@@ -13,17 +15,18 @@ use std::marker::Model;
 /// A point of the lattice: 1 to 6 integers. Contracts see the list of its entries.
 #[derive(Debug, Drop, PartialEq, Eq, PartialOrd, Ord)]
 pub struct Point {
-    entries: ArrayVec<i64, 6>,
+    entries: ArrayVec<i64, MOST_COORDINATES>,
 }
 
 impl Model for Point {
+    ghost use Rattle.lattice_core.specs.declared.limits.TheConstants.{MOST_COORDINATES};
     ghost use Rattle.std.specs.Prelude.{List, ℤ, ◌≤◌, length};
 
     ghost Value = { List ℤ };
 
     ghost view = { λ p. p.entries.items };
 
-    ghost invariant = { λ p. (1 ≤ length p.entries.items) × (length p.entries.items ≤ 6) };
+    ghost invariant = { λ p. (1 ≤ length p.entries.items) × (length p.entries.items ≤ MOST_COORDINATES) };
 
     ghost inverse = { λ xs. record { entries = record { items = xs } } };
 }
@@ -41,10 +44,10 @@ impl Clone for Point {
 impl Point {
     /// The point with these entries. It is `None` exactly where there is no entry or more than 6.
     pub fn new(entries: &[i64]) -> Option<Point>
-        ensures variant { IsSome result ↔ ((1 ≤ length entries.now) × (length entries.now ≤ 6)) }
+        ensures variant { IsSome result ↔ ((1 ≤ length entries.now) × (length entries.now ≤ MOST_COORDINATES)) }
         ensures entries { IfSome result (λ p. p ≡ entries.now) }
     {
-        if entries.is_empty() || entries.len() > 6 {
+        if entries.is_empty() || entries.len() > MOST_COORDINATES {
             return None;
         }
         Some(Point {
@@ -57,7 +60,7 @@ impl Point {
     pub fn dim(&self) -> usize
         ensures value { result ≡ length self.now }
         ensures least { 1 ≤ result }
-        ensures most { result ≤ 6 }
+        ensures most { result ≤ MOST_COORDINATES }
     {
         self.entries.len()
     }
@@ -67,7 +70,7 @@ impl Point {
     pub fn entries(&self) -> &[i64]
         ensures value { result.now ≡ self.now }
         ensures least { 1 ≤ length result.now }
-        ensures most { length result.now ≤ 6 }
+        ensures most { length result.now ≤ MOST_COORDINATES }
     {
         self.entries.as_slice()
     }

@@ -3,13 +3,14 @@ ghost use Rattle.std.specs.Prelude.{◌≡◌, ◌<◌, ◌≤◌, ◌^◌, leng
 ghost use Rattle.std.specs.List.{All};
 ghost use Rattle.lattice_theory.specs.Vector.{HaveDimension};
 ghost use Rattle.lattice_theory.specs.Size.{reach, size};
+ghost use Rattle.lattice_core.specs.declared.limits.TheConstants.{MOST_COORDINATES};
 
 use crate::Point;
 
 /// The size of points with `n` coordinates: the sum over the coordinates of the largest absolute value.
 pub fn size_of(n: usize, points: &[Point]) -> u128
     requires dimension { HaveDimension n points.now }
-    requires most { n ≤ 6 }
+    requires most { n ≤ MOST_COORDINATES }
     ensures { result ≡ size n points.now }
 {
     let mut sum = 0_u128;

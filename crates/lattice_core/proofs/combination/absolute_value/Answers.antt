@@ -8,17 +8,17 @@ use Rattle.lattice_core.proofs.combination.absolute_value.Goals as goal
 use Rattle.lattice_core.proofs.combination.absolute_value.Goals.{After-constant}
 use Rattle.lattice_core.proofs.Widths.{small_fits}
 
-pub wide_pair-pairing-requires-clause-small : goal.wide_pair-pairing-requires-clause-small
-wide_pair-pairing-requires-clause-small c =
+pub pair-pairing-requires-clause-small : goal.pair-pairing-requires-clause-small
+pair-pairing-requires-clause-small c =
     let most = subst (λ xs. length xs ≤ 6) c.entries.ensures.value c.entries.ensures.most in
     rw c.normal.ensures.value (normal_absolute_sum (length c.args.p.now) c.args.f.now.normal most c.requires.dimension c.requires.entries)
 
 -- the sum of the two parts is the value
-total_is : (c : After-constant) → c.wide_pair-pairing.result +ℤ c.constant.result ≡ value c.args.f.now c.args.p.now
-total_is c = value_is c.args.f.now c.args.p.now _ _ _ _ c.entries.ensures.value c.normal.ensures.value c.wide_pair-pairing.ensures.value c.constant.ensures
+total_is : (c : After-constant) → c.pair-pairing.result +ℤ c.constant.result ≡ value c.args.f.now c.args.p.now
+total_is c = value_is c.args.f.now c.args.p.now _ _ _ _ c.entries.ensures.value c.normal.ensures.value c.pair-pairing.ensures.value c.constant.ensures
 
 -- and small
-total_small : (c : After-constant) → nat_abs (c.wide_pair-pairing.result +ℤ c.constant.result) < 2 ^ 76
+total_small : (c : After-constant) → nat_abs (c.pair-pairing.result +ℤ c.constant.result) < 2 ^ 76
 total_small c = rw (total_is c) (value_small c.args.p.now c.args.f.now c.requires)
 
 opposite_fits : (a : ℤ) → nat_abs a < 2 ^ 76 → SFits w128 (neg_ℤ a)
@@ -29,24 +29,24 @@ absolute_fits a h = fits_signed_from_abs w128 (pos (nat_abs a)) (omega (arith, i
 
 pub overflow_add-pairing : goal.overflow_add-pairing
 overflow_add-pairing c =
-    let first : SFits w128 c.wide_pair-pairing.result = search rules in
+    let first : SFits w128 c.pair-pairing.result = search rules in
     let second : SFits w128 c.constant.result = search rules in
-    simp to_z-of_z (small_fits (c.wide_pair-pairing.result +ℤ c.constant.result) (let small = total_small c in omega arith))
+    simp to_z-of_z (small_fits (c.pair-pairing.result +ℤ c.constant.result) (let small = total_small c in omega arith))
 
 pub abs-requires : goal.abs-requires
 abs-requires c =
-    let first : SFits w128 c.wide_pair-pairing.result = search rules in
+    let first : SFits w128 c.pair-pairing.result = search rules in
     let second : SFits w128 c.constant.result = search rules in
-    let sum : SFits w128 (c.wide_pair-pairing.result +ℤ c.constant.result) = small_fits _ (let small = total_small c in omega arith) in
-    simp to_z-of_z (opposite_fits (c.wide_pair-pairing.result +ℤ c.constant.result) (total_small c))
+    let sum : SFits w128 (c.pair-pairing.result +ℤ c.constant.result) = small_fits _ (let small = total_small c in omega arith) in
+    simp to_z-of_z (opposite_fits (c.pair-pairing.result +ℤ c.constant.result) (total_small c))
 
 pub returns : goal.returns
 returns c =
-    let first : SFits w128 c.wide_pair-pairing.result = search rules in
+    let first : SFits w128 c.pair-pairing.result = search rules in
     let second : SFits w128 c.constant.result = search rules in
-    let total = value_is c.args.f.now c.args.p.now _ _ _ _ c.entries.ensures.value c.normal.ensures.value c.wide_pair-pairing.ensures.value c.constant.ensures in
+    let total = value_is c.args.f.now c.args.p.now _ _ _ _ c.entries.ensures.value c.normal.ensures.value c.pair-pairing.ensures.value c.constant.ensures in
     let small = subst (λ (a : ℤ). nat_abs a < 2 ^ 76) (sym total) (value_small c.args.p.now c.args.f.now c.requires) in
-    let sum : SFits w128 (c.wide_pair-pairing.result +ℤ c.constant.result) = small_fits _ (omega arith) in
+    let sum : SFits w128 (c.pair-pairing.result +ℤ c.constant.result) = small_fits _ (omega arith) in
     let answer : SFits w128 c.abs.result = search rules in
     let absolute = simp to_z-of_z at c.abs.ensures.value in
     simp to_z-of_z (absolute ∙ ap (λ (a : ℤ). pos (nat_abs a)) total)

@@ -3,8 +3,8 @@ use Rattle.std.specs.Int.{w128}
 use Rattle.std.proofs.lemmas.Int.{ints, to_z-of_z}
 use Rattle.lattice_theory.specs.Vector.{entry}
 use Rattle.lattice_core.proofs.DotSteps.{sum_more, bound_more, sum_fits, sum_all}
-use Rattle.lattice_core.proofs.pairing.wide_pair.Goals as goal
-use Rattle.lattice_core.proofs.pairing.wide_pair.Goals.{After-product-sum}
+use Rattle.lattice_core.proofs.pairing.pair.Goals as goal
+use Rattle.lattice_core.proofs.pairing.pair.Goals.{After-product-sum}
 
 -- the product of this turn
 product_is : (c : After-product-sum) → c.product-sum.result ≡ entry c.args.a.now c.loop-i.i *ℤ entry c.args.b.now c.loop-i.i
