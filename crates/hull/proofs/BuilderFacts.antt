@@ -9,7 +9,7 @@ use Rattle.lattice_theory.specs.Order.{Ascends, FunctionLess}
 use Rattle.lattice_theory.specs.Facet.{IsFlat, AreFacets}
 use Rattle.lattice_theory.proofs.Orders.{function_irreflexive}
 use Rattle.lattice_core.specs.Dimensions.{dimension_of}
-use Rattle.lattice_core.specs.Limits.{IsSized}
+use Rattle.lattice_core.specs.PointLists.{ArePoints, AreSizedPoints, AreSolidPoints}
 use Rattle.hull.specs.Built.{HasFacets, IsBuilt}
 
 -- functions in order are each there once
@@ -22,9 +22,10 @@ pub has_facets : (n : ℕ) (points : List (List ℤ)) (facets : List Affine) →
 has_facets n points facets h = record { once = each_once facets h.ascends; members = h.members }
 
 -- a copy of the first points
-pub built_copy : (points copies : List (List ℤ)) (facets : List Affine) → copies ≡ points → 0 < length points → HaveDimension (dimension_of points) points → IsSized (dimension_of points) points
-    → (IsFlat (dimension_of points) points → ⊥) → AreFacets (dimension_of points) points facets → IsBuilt (dimension_of copies) copies facets
-built_copy points copies facets e l d s f h = subst (λ (ps : List (List ℤ)). IsBuilt (dimension_of ps) ps facets) (sym e) (record { some = l; dimension = d; sized = s; solid = f; hull = has_facets (dimension_of points) points facets h })
+pub built_copy : (points copies : List (List ℤ)) (facets : List Affine) → copies ≡ points → AreSolidPoints points → AreFacets (dimension_of points) points facets
+    → IsBuilt copies facets
+built_copy points copies facets e s h =
+    subst (λ (ps : List (List ℤ)). IsBuilt ps facets) (sym e) (record { solid = s; hull = has_facets (dimension_of points) points facets h })
 
 -- one more point leaves the dimension
 pub dimension_more : (points : List (List ℤ)) (p : List ℤ) → 0 < length points → dimension_of (points ++ (p ∷ [])) ≡ dimension_of points
@@ -60,13 +61,19 @@ more_some points new p e = let l = ap length e in let m = length-append points (
 pub more_at : (points new : List (List ℤ)) (p : List ℤ) (P : ℕ → List (List ℤ) → Type 0) → new ≡ points ++ (p ∷ []) → 0 < length points → P (dimension_of new) new → P (dimension_of points) (points ++ (p ∷ []))
 more_at points new p P e l h = subst (λ (n : ℕ). P n (points ++ (p ∷ []))) (dimension_more points p l) (subst (λ (ps : List (List ℤ)). P (dimension_of ps) ps) e h)
 
+-- points with one more are points
+pub more_are_points : (points new : List (List ℤ)) (p : List ℤ) → new ≡ points ++ (p ∷ []) → length p ≡ dimension_of points → ArePoints points → ArePoints new
+more_are_points points new p e l h =
+    record { some = more_some points new p e; one_dimension = more_dimension points new p e h.some h.one_dimension l }
+
+-- and solid ones, where they are within the size limit
+pub more_are_solid : (points new : List (List ℤ)) (p : List ℤ) → new ≡ points ++ (p ∷ []) → AreSolidPoints points → AreSizedPoints new → AreSolidPoints new
+more_are_solid points new p e h s = record { sized = s; solid = more_solid points new p e h.sized.are_points.some h.solid }
+
 -- a builder with one more point
-pub built_more : (points new : List (List ℤ)) (p : List ℤ) (old facets : List Affine) → new ≡ points ++ (p ∷ []) → length p ≡ dimension_of points → IsBuilt (dimension_of points) points old
-    → IsSized (dimension_of new) new → AreFacets (dimension_of new) new facets → IsBuilt (dimension_of new) new facets
-built_more points new p old facets e l b s h = record {
-  some = more_some points new p e;
-  dimension = more_dimension points new p e b.some b.dimension l;
-  sized = s;
-  solid = more_solid points new p e b.some b.solid;
+pub built_more : (points new : List (List ℤ)) (p : List ℤ) (facets : List Affine) → new ≡ points ++ (p ∷ []) → AreSolidPoints points → AreSizedPoints new
+    → AreFacets (dimension_of new) new facets → IsBuilt new facets
+built_more points new p facets e b s h = record {
+  solid = more_are_solid points new p e b s;
   hull = has_facets (dimension_of new) new facets h;
 }

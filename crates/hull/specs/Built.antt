@@ -1,10 +1,10 @@
 -- What a builder of hulls holds. This project's own.
-use Rattle.std.specs.Prelude.{◌≢◌, ℕ, ◌<◌, List, length, ℤ}
+use Rattle.std.specs.Prelude.{◌≢◌, ℕ, List, ℤ}
 use Rattle.std.specs.List.{AllPairs}
-use Rattle.lattice_theory.specs.Vector.{HaveDimension}
 use Rattle.lattice_theory.specs.Affine.{Affine}
-use Rattle.lattice_theory.specs.Facet.{IsFlat, AreFacetsInAnyOrder}
-use Rattle.lattice_core.specs.Limits.{IsSized}
+use Rattle.lattice_theory.specs.Facet.{AreFacetsInAnyOrder}
+use Rattle.lattice_core.specs.Dimensions.{dimension_of}
+use Rattle.lattice_core.specs.PointLists.{AreSolidPoints}
 
 -- the points so far, and their facets
 pub record Built : Type 0 where
@@ -16,10 +16,7 @@ pub record HasFacets (n : ℕ) (points : List (List ℤ)) (facets : List Affine)
   pub once : AllPairs (λ f g. f ≢ g) facets
   pub members : AreFacetsInAnyOrder n points facets
 
--- there is a point, all have the dimension n of the first, they are within the size limit and aren't flat, and the facets are theirs
-pub record IsBuilt (n : ℕ) (points : List (List ℤ)) (facets : List Affine) : Type 0 where
-  pub some : 0 < length points
-  pub dimension : HaveDimension n points
-  pub sized : IsSized n points
-  pub solid : IsFlat n points → ⊥
-  pub hull : HasFacets n points facets
+-- solid points within the size limit, and their facets
+pub record IsBuilt (points : List (List ℤ)) (facets : List Affine) : Type 0 where
+  pub solid : AreSolidPoints points
+  pub hull : HasFacets (dimension_of points) points facets

@@ -1,12 +1,12 @@
 //! A hull that grows point by point.
 
 ghost use Rattle.std.specs.Prelude.{◌≡◌, ◌+◌, ◌<◌, ◌≤◌, List, [], ◌∷◌, ◌++◌, length, Err, IfOk, OnOk, IfErr, OnErr};
-ghost use Rattle.lattice_theory.specs.Vector.{HaveDimension};
-ghost use Rattle.lattice_theory.specs.Facet.{IsFlat};
 ghost use Rattle.lattice_core.specs.Dimensions.{dimension_of};
 ghost use Rattle.lattice_core.specs.Limits.{IsSized};
 ghost use Rattle.lattice_core.specs.declared.faults.Fault.TheVariants as Fault;
-ghost use Rattle.hull.specs.Faults.{IsStartFault, IsInsertFault};
+ghost use Rattle.lattice_core.specs.PointLists.{ArePoints, AreSolidPoints};
+ghost use Rattle.lattice_core.specs.Stops.{Stops};
+ghost use Rattle.hull.specs.Faults.{IsSizeRefusal, IsStartRefusal};
 ghost use Rattle.hull.specs.Built.{HasFacets};
 
 use crate::facets::{all_facets, sized, solid};
@@ -24,14 +24,13 @@ pub struct HullBuilder {
 }
 
 impl Model for HullBuilder {
-    ghost use Rattle.lattice_core.specs.Dimensions.{dimension_of};
     ghost use Rattle.hull.specs.Built.{Built, IsBuilt};
 
     ghost Value = { Built };
 
     ghost view = { λ b. record { points = b.points.items; facets = b.facets.items } };
 
-    ghost invariant = { λ b. IsBuilt (dimension_of b.points.items) b.points.items b.facets.items };
+    ghost invariant = { λ b. IsBuilt b.points.items b.facets.items };
 }
 
 /// The same points again.
@@ -50,14 +49,13 @@ impl HullBuilder {
     /// dimension (the size is told), and then flat ones (with their flat function); neither needs memory. Without memory for the points and
     /// facets it is `NoMemory`.
     pub fn start(alloc: Global, points: &[Point]) -> Result<HullBuilder, Fault>
-        requires one_dimension { HaveDimension (dimension_of points.now) points.now }
+        requires points { ArePoints points.now }
         requires count { length points.now ≡ dimension_of points.now + 1 }
         ensures points { IfOk result (λ b. b.points ≡ points.now) }
         ensures facets { IfOk result (λ b. HasFacets (dimension_of points.now) points.now b.facets) }
-        ensures within { OnOk result (IsSized (dimension_of points.now) points.now) }
-        ensures solid { OnOk result (IsFlat (dimension_of points.now) points.now → ⊥) }
-        ensures refused { IfErr result (IsStartFault (dimension_of points.now) points.now) }
-        ensures no_memory { result ≡ Err Fault.NoMemory → IsSized (dimension_of points.now) points.now × (IsFlat (dimension_of points.now) points.now → ⊥) }
+        ensures solid { OnOk result (AreSolidPoints points.now) }
+        ensures refused { IfErr result (Stops (IsStartRefusal (dimension_of points.now) points.now)) }
+        ensures no_memory { result ≡ Err Fault.NoMemory → AreSolidPoints points.now }
     {
         solid(points)?;
         let facets = all_facets(alloc, points)?;
@@ -78,7 +76,7 @@ impl HullBuilder {
         ensures facets { OnOk result (HasFacets (dimension_of self.old.points) (self.old.points ++ (p.now ∷ [])) self.new.facets) }
         ensures within { OnOk result (IsSized (dimension_of self.old.points) (self.old.points ++ (p.now ∷ []))) }
         ensures unchanged { OnErr result (self.new ≡ self.old) }
-        ensures refused { IfErr result (IsInsertFault (dimension_of self.old.points) (self.old.points ++ (p.now ∷ []))) }
+        ensures refused { IfErr result (Stops (IsSizeRefusal (dimension_of self.old.points) (self.old.points ++ (p.now ∷ [])))) }
     {
         let mut points = copied_points(self.alloc, &self.points)?;
         points.push(p.copied())?;

@@ -4,7 +4,8 @@ ghost use Rattle.std.specs.Prelude.{◌≡◌, ◌+◌, ◌*◌, ◌^◌, ◌<�
 ghost use Rattle.std.specs.List.{All};
 ghost use Rattle.lattice_theory.specs.Vector.{HaveDimension};
 ghost use Rattle.lattice_theory.specs.Size.{size, absolute_sum};
-ghost use Rattle.lattice_core.specs.Limits.{size_limit_of, IsSized};
+ghost use Rattle.lattice_core.specs.Limits.{size_limit_of};
+ghost use Rattle.lattice_core.specs.PointLists.{AreSizedPoints};
 ghost use Rattle.lattice_core.specs.Dimensions.{dimension_of};
 ghost use Rattle.hull.specs.Differences.{difference, differences};
 ghost use Rattle.hull.specs.Kernels.{IsPrimitiveKernel};
@@ -30,9 +31,7 @@ pub(crate) fn point_difference(p: &Point, q: &Point) -> ArrayVec<i64, 6>
 
 /// The kernel of the differences of the other points and the first.
 pub(crate) fn kernel_of(points: &[Point]) -> ArrayVec<KernelMember, 6>
-    requires some { 0 < length points.now }
-    requires one_dimension { HaveDimension (dimension_of points.now) points.now }
-    requires within { IsSized (dimension_of points.now) points.now }
+    requires points { AreSizedPoints points.now }
     ensures kernel { IsPrimitiveKernel (dimension_of points.now) (differences points.now) result.items }
     ensures entries { All (λ k. All (λ a. nat_abs a < 2 ^ 63) k.vector) result.items }
     ensures count { dimension_of points.now + 1 ≤ length result.items + length points.now }

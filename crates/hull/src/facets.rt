@@ -1,34 +1,29 @@
 //! The facets of points.
 
-ghost use Rattle.std.specs.Prelude.{◌≡◌, ◌<◌, ◌≤◌, length, Err, IfOk, OnOk, IfErr};
-ghost use Rattle.lattice_core.specs.declared.faults.Fault.TheVariants as Fault;
+ghost use Rattle.std.specs.Prelude.{◌≡◌, ◌≤◌, length, Err, IfOk, OnOk, IfErr};
 ghost use Rattle.std.specs.List.{All};
-ghost use Rattle.lattice_theory.specs.Vector.{HaveDimension};
 ghost use Rattle.lattice_theory.specs.Size.{size};
-ghost use Rattle.lattice_theory.specs.Facet.{IsFlat, AreFacets};
+ghost use Rattle.lattice_theory.specs.Facet.{AreFacets};
+ghost use Rattle.lattice_core.specs.declared.faults.Fault.TheVariants as Fault;
+ghost use Rattle.lattice_core.specs.declared.limits.TheConstants.{MOST_FACETS};
 ghost use Rattle.lattice_core.specs.Dimensions.{dimension_of};
+ghost use Rattle.lattice_core.specs.PointLists.{ArePoints, AreSizedPoints, AreSolidPoints};
+ghost use Rattle.lattice_core.specs.Stops.{Stops};
 ghost use Rattle.hull.specs.Bounded.{IsWithin};
-ghost use Rattle.lattice_core.specs.Limits.{IsSized};
-ghost use Rattle.hull.specs.Faults.{IsSizeRefusal, IsStartRefusal, IsFacetsFault, facet_limit};
+ghost use Rattle.hull.specs.Faults.{IsSizeRefusal, IsStartRefusal, IsFacetsRefusal};
 
 use crate::flat::flat_function;
 use crate::kernel::kernel_of_none;
 use crate::search::add_facets_from;
 use lattice_core::{
-    Fault, Functional, LimitName, NoMemory, Point, Refusal, ascending_functions, size_limit,
-    size_of,
+    Fault, Functional, LimitName, MOST_FACETS, NoMemory, Point, Refusal, ascending_functions,
+    size_limit, size_of,
 };
 use std::alloc::Global;
 
-/// The most facets that are handed out.
-const FACET_LIMIT: usize = 128;
-
 /// All facets of points within the size limit that aren't flat, each once, ordered by normal and then by constant.
 pub(crate) fn all_facets(alloc: Global, points: &[Point]) -> Result<Vec<Functional>, NoMemory>
-    requires some { 0 < length points.now }
-    requires one_dimension { HaveDimension (dimension_of points.now) points.now }
-    requires within { IsSized (dimension_of points.now) points.now }
-    requires solid { IsFlat (dimension_of points.now) points.now → ⊥ }
+    requires points { AreSolidPoints points.now }
     ensures { IfOk result (λ fs. AreFacets (dimension_of points.now) points.now fs.items) }
 {
     let mut facets = Vec::new(alloc);
@@ -42,10 +37,8 @@ pub(crate) fn all_facets(alloc: Global, points: &[Point]) -> Result<Vec<Function
 
 /// Refuses points that are too large.
 pub(crate) fn sized(points: &[Point]) -> Result<(), Refusal>
-    requires some { 0 < length points.now }
-    requires one_dimension { HaveDimension (dimension_of points.now) points.now }
-    ensures least { 1 ≤ dimension_of points.now }
-    ensures within { OnOk result (IsSized (dimension_of points.now) points.now) }
+    requires points { ArePoints points.now }
+    ensures sized { OnOk result (AreSizedPoints points.now) }
     ensures refused { IfErr result (IsSizeRefusal (dimension_of points.now) points.now) }
 {
     let n = points[0].dim();
@@ -58,11 +51,8 @@ pub(crate) fn sized(points: &[Point]) -> Result<(), Refusal>
 
 /// Refuses points that are too large, and then flat ones.
 pub(crate) fn solid(points: &[Point]) -> Result<(), Refusal>
-    requires some { 0 < length points.now }
-    requires one_dimension { HaveDimension (dimension_of points.now) points.now }
-    ensures least { 1 ≤ dimension_of points.now }
-    ensures within { OnOk result (IsSized (dimension_of points.now) points.now) }
-    ensures solid { OnOk result (IsFlat (dimension_of points.now) points.now → ⊥) }
+    requires points { ArePoints points.now }
+    ensures solid { OnOk result (AreSolidPoints points.now) }
     ensures refused { IfErr result (IsStartRefusal (dimension_of points.now) points.now) }
 {
     sized(points)?;
@@ -78,19 +68,17 @@ pub(crate) fn solid(points: &[Point]) -> Result<(), Refusal>
 /// refusals need none. For the points' size
 /// S, a facet's normal has entries of at most (2S)^(n-1), and its constant is at most (2S)^(n-1) S. Source: math/0204356, section 2.
 pub fn facets_of(alloc: Global, points: &[Point]) -> Result<Vec<Functional>, Fault>
-    requires some { 0 < length points.now }
-    requires one_dimension { HaveDimension (dimension_of points.now) points.now }
+    requires points { ArePoints points.now }
     ensures facets { IfOk result (λ fs. AreFacets (dimension_of points.now) points.now fs.items) }
-    ensures within { OnOk result (IsSized (dimension_of points.now) points.now) }
-    ensures solid { OnOk result (IsFlat (dimension_of points.now) points.now → ⊥) }
-    ensures few { IfOk result (λ fs. length fs.items ≤ facet_limit) }
+    ensures solid { OnOk result (AreSolidPoints points.now) }
+    ensures few { IfOk result (λ fs. length fs.items ≤ MOST_FACETS) }
     ensures bounded { IfOk result (λ fs. All (IsWithin (dimension_of points.now) (size (dimension_of points.now) points.now)) fs.items) }
-    ensures refused { IfErr result (IsFacetsFault (dimension_of points.now) points.now) }
-    ensures no_memory { result ≡ Err Fault.NoMemory → IsSized (dimension_of points.now) points.now × (IsFlat (dimension_of points.now) points.now → ⊥) }
+    ensures refused { IfErr result (Stops (IsFacetsRefusal (dimension_of points.now) points.now)) }
+    ensures no_memory { result ≡ Err Fault.NoMemory → AreSolidPoints points.now }
 {
     solid(points)?;
     let facets = all_facets(alloc, points)?;
-    if facets.len() > FACET_LIMIT {
+    if facets.len() > MOST_FACETS {
         return Err(Fault::Refused(Refusal::Limit(LimitName::Facets, facets.len() as u128)));
     }
     Ok(facets)

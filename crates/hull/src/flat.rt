@@ -4,7 +4,7 @@ ghost use Rattle.std.specs.Prelude.{◌≡◌, ◌<◌, ◌≤◌, length, Match
 ghost use Rattle.lattice_theory.specs.Vector.{HaveDimension};
 ghost use Rattle.lattice_theory.specs.Facet.{IsFlat, IsFlatFunction};
 ghost use Rattle.lattice_core.specs.Dimensions.{dimension_of};
-ghost use Rattle.lattice_core.specs.Limits.{IsSized};
+ghost use Rattle.lattice_core.specs.PointLists.{AreSizedPoints};
 
 use crate::differences::kernel_of;
 use crate::functions::function_at;
@@ -14,9 +14,7 @@ use lattice_core::{Functional, Point};
 /// on them, the one with a normal of greatest common divisor 1 whose last entry that isn't 0 stands earliest and is positive. It is `None`
 /// exactly where the points aren't flat. This project's own.
 pub fn flat_function(points: &[Point]) -> Option<Functional>
-    requires some { 0 < length points.now }
-    requires one_dimension { HaveDimension (dimension_of points.now) points.now }
-    requires within { IsSized (dimension_of points.now) points.now }
+    requires points { AreSizedPoints points.now }
     ensures { MatchOption result (IsFlat (dimension_of points.now) points.now → ⊥) (IsFlatFunction (dimension_of points.now) points.now) }
 {
     let kernel = kernel_of(points);

@@ -4,7 +4,7 @@ ghost use Rattle.std.specs.Prelude.{◌≡◌, ◌↔◌, ◌<◌, ◌≤◌, le
 ghost use Rattle.lattice_theory.specs.Vector.{HaveDimension};
 ghost use Rattle.lattice_core.specs.Dimensions.{dimension_of};
 ghost use Rattle.hull.specs.Hyperplanes.{IsHyperplane, HasTwoFunctions};
-ghost use Rattle.lattice_core.specs.Limits.{IsSized};
+ghost use Rattle.lattice_core.specs.PointLists.{AreSizedPoints};
 
 use crate::differences::kernel_of;
 use crate::functions::{function_at, opposite, starts_positive};
@@ -15,10 +15,8 @@ use lattice_core::{Functional, Point};
 /// is `None` exactly where two functions vanish at the points that aren't multiples of each other. Source: math/0204356, section 2; the sign is
 /// this project's own.
 pub fn hyperplane(points: &[Point]) -> Option<Functional>
-    requires some { 0 < length points.now }
-    requires one_dimension { HaveDimension (dimension_of points.now) points.now }
+    requires points { AreSizedPoints points.now }
     requires count { length points.now ≡ dimension_of points.now }
-    requires within { IsSized (dimension_of points.now) points.now }
     ensures none { IsNone result ↔ HasTwoFunctions (dimension_of points.now) points.now }
     ensures function { IfSome result (IsHyperplane (dimension_of points.now) points.now) }
 {

@@ -5,17 +5,18 @@ ghost use Rattle.std.specs.List.{All};
 ghost use Rattle.lattice_theory.specs.Vector.{HaveDimension};
 ghost use Rattle.lattice_theory.specs.Size.{absolute_sum};
 ghost use Rattle.lattice_theory.specs.Hull.{AreVertices};
-ghost use Rattle.lattice_theory.specs.Facet.{IsFlat, AreFacetsInAnyOrder};
+ghost use Rattle.lattice_theory.specs.Facet.{AreFacetsInAnyOrder};
+ghost use Rattle.lattice_core.specs.declared.limits.TheConstants.{MOST_VERTICES};
 ghost use Rattle.lattice_core.specs.Dimensions.{dimension_of};
-ghost use Rattle.lattice_core.specs.Limits.{IsSized};
-ghost use Rattle.hull.specs.Faults.{IsVerticesFault, vertex_limit};
+ghost use Rattle.lattice_core.specs.PointLists.{AreSolidPoints};
+ghost use Rattle.lattice_core.specs.Stops.{Stops};
+ghost use Rattle.hull.specs.Faults.{IsVerticesRefusal};
 ghost use Rattle.hull.specs.Tight.{LiesWith, LiesAlone};
 
-use lattice_core::{Fault, Functional, LimitName, NoMemory, Point, Refusal, ascending_points};
+use lattice_core::{
+    Fault, Functional, LimitName, MOST_VERTICES, NoMemory, Point, Refusal, ascending_points,
+};
 use std::alloc::Global;
-
-/// The most vertices that are handed out.
-const VERTEX_LIMIT: usize = 128;
 
 /// Whether p lies on every facet on which v lies.
 fn lies_with(facets: &[Functional], v: &Point, p: &Point) -> bool
@@ -49,9 +50,7 @@ fn all_vertices(
     points: &[Point],
     facets: &[Functional],
 ) -> Result<Vec<Point>, NoMemory>
-    requires one_dimension { HaveDimension (dimension_of points.now) points.now }
-    requires within { IsSized (dimension_of points.now) points.now }
-    requires solid { IsFlat (dimension_of points.now) points.now → ⊥ }
+    requires points { AreSolidPoints points.now }
     requires facets { AreFacetsInAnyOrder (dimension_of points.now) points.now facets.now }
     ensures { IfOk result (λ vs. AreVertices (dimension_of points.now) points.now vs.items) }
 {
@@ -73,16 +72,14 @@ pub fn vertices_of(
     points: &[Point],
     facets: &[Functional],
 ) -> Result<Vec<Point>, Fault>
-    requires one_dimension { HaveDimension (dimension_of points.now) points.now }
-    requires within { IsSized (dimension_of points.now) points.now }
-    requires solid { IsFlat (dimension_of points.now) points.now → ⊥ }
+    requires points { AreSolidPoints points.now }
     requires facets { AreFacetsInAnyOrder (dimension_of points.now) points.now facets.now }
     ensures vertices { IfOk result (λ vs. AreVertices (dimension_of points.now) points.now vs.items) }
-    ensures few { IfOk result (λ vs. length vs.items ≤ vertex_limit) }
-    ensures refused { IfErr result (IsVerticesFault (dimension_of points.now) points.now) }
+    ensures few { IfOk result (λ vs. length vs.items ≤ MOST_VERTICES) }
+    ensures refused { IfErr result (Stops (IsVerticesRefusal (dimension_of points.now) points.now)) }
 {
     let vertices = all_vertices(alloc, points, facets)?;
-    if vertices.len() > VERTEX_LIMIT {
+    if vertices.len() > MOST_VERTICES {
         return Err(Fault::Refused(Refusal::Limit(LimitName::Vertices, vertices.len() as u128)));
     }
     Ok(vertices)

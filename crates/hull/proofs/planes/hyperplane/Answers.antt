@@ -23,7 +23,7 @@ kernel c = subst (IsPrimitiveKernel (dimension_of c.args.points.now) (difference
 fixed : (c : After-function_at-function) → IsFixedBy (dimension_of c.args.points.now) c.args.points.now c.function_at-function.result
 fixed c =
     let n = dimension_of c.args.points.now in
-    single_fixed n c.args.points.now c.index-points-0.result c.as_slice-members.result.now c.index-members-0.result c.function_at-function.result c.requires.one_dimension c.requires.some c.index-points-0.is
+    single_fixed n c.args.points.now c.index-points-0.result c.as_slice-members.result.now c.index-members-0.result c.function_at-function.result c.requires.points.are_points.one_dimension c.requires.points.are_points.some c.index-points-0.is
     (subst (IsPrimitiveKernel n (differences c.args.points.now)) (sym c.as_slice-members.ensures.value) c.kernel_of-kernel.ensures.kernel) (only_member c.as_slice-members.result.now c.index-members-0.result c.if-members-ne1.false c.index-members-0.is)
     (c.function_at-function.ensures.normal ∙ c.vector.ensures) (c.function_at-function.ensures.constant ∙ ap (λ x. neg_ℤ (dot x c.index-points-0.result)) c.vector.ensures)
 
@@ -34,7 +34,7 @@ returns-then-members-ne1-clause-none c =
     let count = c.kernel_of-kernel.ensures.count in
     let same = ap length c.as_slice-members.ensures.value in
     let two : 2 ≤ length c.as_slice-members.result.now = omega arith in
-    (λ e. two_functions n c.args.points.now c.as_slice-members.result.now c.requires.some c.requires.one_dimension (kernel ((goal.at.returns-then-members-ne1-clause-none c).After-as_slice-members)) two, λ h. refl)
+    (λ e. two_functions n c.args.points.now c.as_slice-members.result.now c.requires.points.are_points.some c.requires.points.are_points.one_dimension (kernel ((goal.at.returns-then-members-ne1-clause-none c).After-as_slice-members)) two, λ h. refl)
 
 pub function_at-function-requires-clause-entries : goal.function_at-function-requires-clause-entries
 function_at-function-requires-clause-entries c =
@@ -42,7 +42,7 @@ function_at-function-requires-clause-entries c =
 
 pub function_at-function-requires-clause-small : goal.function_at-function-requires-clause-small
 function_at-function-requires-clause-small c =
-    All-contains (λ p. absolute_sum p ≤ 2 ^ 30) c.args.points.now c.index-points-0.result (points_bound (dimension_of c.args.points.now) c.args.points.now c.requires.one_dimension c.requires.within) (0, c.requires.some, sym c.index-points-0.is)
+    All-contains (λ p. absolute_sum p ≤ 2 ^ 30) c.args.points.now c.index-points-0.result (points_bound (dimension_of c.args.points.now) c.args.points.now c.requires.points.are_points.one_dimension c.requires.points.within) (0, c.requires.points.are_points.some, sym c.index-points-0.is)
 
 pub opposite-requires-clause-entries : goal.opposite-requires-clause-entries
 opposite-requires-clause-entries c =
