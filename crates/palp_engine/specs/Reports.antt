@@ -11,7 +11,8 @@ use Rattle.lattice_core.specs.Limits.{size_limit_of, IsSized}
 use Rattle.lattice_core.specs.declared.faults.Refusal.{Refusal}
 use Rattle.lattice_core.specs.declared.faults.Refusal.TheVariants.{Flat, Limit}
 use Rattle.lattice_core.specs.declared.faults.LimitName.TheVariants.{Size, Facets, Vertices, Points}
-use Rattle.hull.specs.Faults.{facet_limit, vertex_limit, HasManyFacets, HasManyVertices}
+use Rattle.lattice_core.specs.declared.limits.TheConstants.{MOST_FACETS, MOST_VERTICES}
+use Rattle.hull.specs.Faults.{HasManyFacets, HasManyVertices}
 use Rattle.palp_engine.specs.Limits.{most_coordinates, most_points}
 
 -- the line that tells the numbers of lattice points, vertices and facets
@@ -34,14 +35,14 @@ pub record HaveFewFacets (n : ℕ) (points : List (List ℤ)) : Type 0 where
   pub full : AreFull n points
   pub facets : List Affine
   pub are_facets : AreFacets n points facets
-  pub few : length facets ≤ facet_limit
+  pub few : length facets ≤ MOST_FACETS
 
 -- and they have few vertices
 pub record HaveFewVertices (n : ℕ) (points : List (List ℤ)) : Type 0 where
   pub faces : HaveFewFacets n points
   pub vertices : List (List ℤ)
   pub are_vertices : AreVertices n points vertices
-  pub few : length vertices ≤ vertex_limit
+  pub few : length vertices ≤ MOST_VERTICES
 
 -- the line says how many lattice points, vertices and facets the points' hull has, and the points aren't refused
 pub record IsBodyLine (n : ℕ) (points : List (List ℤ)) (line : List ℕ) : Type 0 where

@@ -12,11 +12,7 @@ use Rattle.lattice_theory.specs.Points.{IsLatticePoint, AreLatticePoints, IsDila
 use Rattle.lattice_theory.proofs.Integers.{difference_from, order_from}
 use Rattle.lattice_theory.proofs.Members.{In, each_from_in, each_in, in_from_contains, contains_from_in}
 use Rattle.facet_theory.specs.Solid.{AreSolid}
-use Rattle.facet_theory.proofs.Lifted.{value_at_one}
-use Rattle.facet_theory.proofs.Signs.{nonnegative_same, nonnegative_from}
-use Rattle.facet_theory.proofs.Coordinates.{above_low, below_high, length-above_low, length-below_high, above_low-over, below_high-over, above_low-value, below_high-value}
-use Rattle.facet_theory.proofs.Generate.{facets_generate_lem}
-use Rattle.facet_theory.proofs.Hull.{sum_nonnegative, hull_by_facets_lem}
+use Rattle.facet_theory.proofs.DilateBoxes.{first_dilate_is_hull_lem, dilate_in_box_lem}
 use Rattle.lattice_theory.specs.Grid.{grid, IsInBox}
 use Rattle.lattice_theory.proofs.GridLists.{grid_lists}
 use Rattle.point_scan.specs.ScanSteps.{IsSpan, AreCorners, is_inside}
@@ -32,25 +28,6 @@ fact_of : (z : ℤ) → int_le (pos 0) z ≡ true → pos 0 ≤ℤ z
 fact_of z e = grind (arith, ints)
 
 module _ (n : ℕ) (points : List (List ℤ)) (solid : AreSolid n points) (j : ℕ) where
-  -- a function that is nonnegative on the points is nonnegative on the dilate, its constant taken j times
-  nonnegative_over : (x : List ℤ) → IsDilatePoint n points j x → (f : Affine) → length f.normal ≡ n → IsNonnegative points f → pos 0 ≤ℤ value_over f x (pos j)
-  nonnegative_over x dilate f e h = sum_nonnegative n points f (facets_generate_lem n points solid f e h) x (pos j) dilate.inside
-
-  -- so each coordinate of the dilate is within j times its span
-  in_span : (x : List ℤ) → IsDilatePoint n points j x → (i : ℕ) → i < n → (low high : ℤ) → IsSpan points i low high
-      → ((pos j *ℤ low) ≤ℤ entry x i) × (entry x i ≤ℤ (pos j *ℤ high))
-  in_span x dilate i l low high span = (
-    order_from (pos j *ℤ low) (entry x i) (nonnegative_same (above_low-over n i low l x (pos j))
-        (nonnegative_over x dilate (above_low n i low) (length-above_low n i low)
-        (nonnegative_from points (above_low n i low) (λ q m. nonnegative_same (sym (above_low-value n i low l q)) (difference_from low (entry q i) (at q m).0))))),
-    order_from (entry x i) (pos j *ℤ high) (nonnegative_same (below_high-over n i high l x (pos j))
-        (nonnegative_over x dilate (below_high n i high) (length-below_high n i high)
-        (nonnegative_from points (below_high n i high) (λ q m. nonnegative_same (sym (below_high-value n i high l q)) (difference_from (entry q i) high (at q m).1))))),
-  )
-    where
-      at : (q : List ℤ) → In q points → (low ≤ℤ entry q i) × (entry q i ≤ℤ high)
-      at q m = All-contains (λ p. (low ≤ℤ entry p i) × (entry p i ≤ℤ high)) points q span.within (contains_from_in m)
-
   module _ (low high : List ℤ) (corners : AreCorners n points j low high) where
     -- so the dilate lies in the box
     pub dilate_in_box : (x : List ℤ) → IsDilatePoint n points j x → IsInBox low high x
@@ -60,7 +37,7 @@ module _ (n : ℕ) (points : List (List ℤ)) (solid : AreSolid n points) (j : �
       within = λ i l.
           let within : i < n = let e = dilate.dimension in omega arith in
           let s = corners.spans i within in
-          let b = in_span x dilate i within s.lowest s.highest s.spans in
+          let b = dilate_in_box_lem n points solid j x dilate i within s.lowest s.highest s.spans.within in
           (rw s.low_is b.0, rw s.high_is b.1);
     }
 
@@ -96,10 +73,9 @@ module _ (n : ℕ) (points : List (List ℤ)) (solid : AreSolid n points) (j : �
 
 -- the first dilate is the hull
 pub lattice_from_dilate : (n : ℕ) (points : List (List ℤ)) → AreSolid n points → (xs : List (List ℤ)) → AreDilatePoints n points 1 xs → AreLatticePoints n points xs
-lattice_from_dilate n points solid xs are = record { ascends = are.ascends; members = λ p. (λ c. to p ((are.members p).0 c), λ l. (are.members p).1 (from p l)) }
-  where
-    to : (p : List ℤ) → IsDilatePoint n points 1 p → IsLatticePoint n points p
-    to p d = record { dimension = d.dimension; inside = (hull_by_facets_lem n points solid p d.dimension).1 (λ f facet. nonnegative_same (value_at_one f p) (d.inside f facet)) }
-
-    from : (p : List ℤ) → IsLatticePoint n points p → IsDilatePoint n points 1 p
-    from p l = record { dimension = l.dimension; inside = λ f facet. nonnegative_same (sym (value_at_one f p)) ((hull_by_facets_lem n points solid p l.dimension).0 l.inside f facet) }
+lattice_from_dilate n points solid xs are = record {
+  ascends = are.ascends;
+  members = λ p.
+      let same = first_dilate_is_hull_lem n points solid p in
+      (λ c. same.0 ((are.members p).0 c), λ l. (are.members p).1 (same.1 l));
+}
