@@ -15,7 +15,7 @@ use Rattle.lattice_theory.proofs.Members.{Each, empty, more, each_head, each_tai
 use Rattle.lattice_theory.proofs.Members.{each_from_all, all_from_each, In, here, there, in_push, in_append_left, in_from_contains, contains_from_in}
 use Rattle.weight_points.specs.Listing.{solutions}
 use Rattle.weight_points.specs.Members.{Walked, AreMonomials, IsMonomialAt, HasMonomials, AreFirst}
-use Rattle.weight_points.specs.Search.{exponent}
+use Rattle.weight_points.specs.steps.Search.{exponent}
 use Rattle.weight_points.proofs.Collecting.{none_are_first, first_and_next, first_are_all}
 use Rattle.weight_points.proofs.Integral.{integral, are_monomials, solution_from_monomial}
 use Rattle.lattice_theory.proofs.Sublists.{from_map}

@@ -8,7 +8,7 @@ use Rattle.lattice_theory.proofs.Unique.{lists_unique}
 use Rattle.lattice_core.specs.Weights.{Weighted, AreWellFormed, AreWithinLimits, IsMonomial}
 use Rattle.weight_points.specs.Members.{AreMonomials, IsMonomialAt, HasMonomials, AreFirst}
 use Rattle.weight_points.specs.Listing.{solutions}
-use Rattle.weight_points.proofs.Integral.{integral, are_monomials}
+use Rattle.weight_points.proofs.Solutions.{are_monomials}
 
 -- the list of all is the only one
 pub same_monomials : (systems : List Weighted) (xs ys : List (List ℤ)) → AreMonomials systems xs → AreMonomials systems ys → xs ≡ ys
@@ -19,7 +19,7 @@ same_front : (xs ys us vs : List (List ℤ)) (n : ℕ) → length xs ≡ n → l
 same_front xs ys us vs n e f same = sym (take_at us vs n f) ∙ (ap (λ (zs : List (List ℤ)). take n zs) (sym same) ∙ take_at xs ys n e)
 
 pub none_are_first : (systems : List Weighted) → AreWellFormed systems → AreWithinLimits systems → AreFirst systems 0 []
-none_are_first systems formed limits = record { later = integral (solutions systems); are_monomials = are_monomials systems formed limits.degrees; count_is = refl }
+none_are_first systems formed limits = record { later = solutions systems; are_monomials = are_monomials systems formed limits.degrees; count_is = refl }
 
 pub first_and_next : (systems : List Weighted) (count : ℕ) (xs : List (List ℤ)) (a : List ℤ) → AreFirst systems count xs → IsMonomialAt systems count a → AreFirst systems (count + 1) (xs ++ a ∷ [])
 first_and_next systems count xs a f n =

@@ -1,27 +1,31 @@
 -- The steps of the search for the first completion of a beginning.
 use Rattle.std.specs.List.{All}
-use Rattle.std.specs.Prelude.{true}
+use Rattle.std.specs.Prelude.{true, pos}
 use Rattle.std.proofs.Common.{◌≡◌, ◌≢◌, ◌⊎◌, inl, inr, ℕ, ◌+◌, ◌<◌, ◌≤◌, List, length, map, get_or, refl, sym, ap, ◌∙◌, subst, arith}
 use Rattle.std.proofs.Math.ListN.{set, length-set}
 use Rattle.std.proofs.lemmas.Bool.{cases_lt}
 use Rattle.std.proofs.lemmas.List.{get_or-set_same, get_or-set_other, set-set, set-get_or}
 use Rattle.std.proofs.lemmas.List.Elements.{All-map}
+use Rattle.lattice_core.specs.declared.limits.TheConstants.{MOST_DEGREE}
 use Rattle.weight_points.specs.declared.rows.Row.{Row}
-use Rattle.weight_points.specs.Rows.{system_of, systems_of, IsAffordable, IsPlausible, spending, returning, AreRows}
-use Rattle.weight_points.specs.Reaches.{spent}
-use Rattle.weight_points.specs.Search.{ComesBefore, exponent, AgreesTo, IsZeroFrom, IsCompletion, Completes}
+use Rattle.weight_points.specs.steps.Rows.{system_of, systems_of, IsAffordable, IsPlausible, spending, returning, AreRows}
+use Rattle.weight_points.specs.steps.Reaches.{spent}
+use Rattle.weight_points.specs.steps.Search.{exponent, IsZeroFrom, IsCompletion, Completes}
+use Rattle.lattice_theory.specs.Order.{LexLess}
+use Rattle.lattice_theory.specs.Grid.{AgreesTo, LexAtMost}
 use Rattle.weight_points.proofs.Weighing.{all_unmap, plausible_row, solved_row, solution_small, degrees_small, returned}
-use Rattle.weight_points.proofs.Beginnings.{comes_before, same_agreeing}
+use Rattle.weight_points.proofs.Integral.{comes_before, same_integral, same_exponent, agree_from}
 
 module _ (rows : List Row) (a : List ℕ) (place from : ℕ) (ready : AreRows rows a) (within : place < length a) (zeros : IsZeroFrom place a) where
   -- each completion has a plausible exponent at the place
   pub plausible_completion : (b : List ℕ) → IsCompletion (systems_of rows) place from a b → All (IsPlausible place (exponent b place)) rows
   plausible_completion b c =
       let degrees = all_unmap (λ s. spent s.weights b ≡ s.degree) system_of rows c.solves.degrees in
-      λ k d h. plausible_row (get_or rows k d) a b place (ready.each k d h) (c.solves.columns ∙ sym ready.columns) within c.agrees zeros (degrees k d h)
+      λ k d h. plausible_row (get_or rows k d) a b place (ready.each k d h) (c.solves.columns ∙ sym ready.columns) within
+      (λ i l. same_exponent a b place i c.agrees l) zeros (degrees k d h)
 
   -- and no large one
-  pub completion_small : (b : List ℕ) → IsCompletion (systems_of rows) place from a b → exponent b place ≤ 32_767
+  pub completion_small : (b : List ℕ) → IsCompletion (systems_of rows) place from a b → exponent b place ≤ MOST_DEGREE
   completion_small b c = solution_small (systems_of rows) b ready.formed (degrees_small rows a ready.each) c.solves place (let e = c.solves.columns in let f = ready.columns in omega arith)
 
   -- entries with a value at the place
@@ -35,21 +39,22 @@ module _ (rows : List Row) (a : List ℕ) (place from : ℕ) (ready : AreRows ro
   zeros_behind value i h = value_other value i (omega (arith, h)) ∙ zeros i (omega (arith, h))
 
   -- a completion of the longer beginning is one of the beginning
-  agrees_front : (value : ℕ) (b : List ℕ) → AgreesTo (place + 1) (set a place value) b → AgreesTo place a b
-  agrees_front value b h i k = h i (omega (arith, k)) ∙ value_other value i (omega (arith, k))
+  agrees_front : (value : ℕ) (b : List ℕ) → AgreesTo (place + 1) (map pos (set a place value)) (map pos b) → AgreesTo place (map pos a) (map pos b)
+  agrees_front value b h = agree_from a b place
+      (λ i k. same_exponent (set a place value) b (place + 1) i h (omega (arith, k)) ∙ value_other value i (omega (arith, k)))
 
-  agrees_there : (value : ℕ) (b : List ℕ) → AgreesTo (place + 1) (set a place value) b → exponent b place ≡ value
-  agrees_there value b h = h place (omega arith) ∙ value_there value
+  agrees_there : (value : ℕ) (b : List ℕ) → AgreesTo (place + 1) (map pos (set a place value)) (map pos b) → exponent b place ≡ value
+  agrees_there value b h = same_exponent (set a place value) b (place + 1) place h (omega arith) ∙ value_there value
 
-  agrees_longer : (value : ℕ) (b : List ℕ) → AgreesTo place a b → exponent b place ≡ value → AgreesTo (place + 1) (set a place value) b
-  agrees_longer value b h e i k = by (cases_lt i place)
+  agrees_longer : (value : ℕ) (b : List ℕ) → AgreesTo place (map pos a) (map pos b) → exponent b place ≡ value → AgreesTo (place + 1) (map pos (set a place value)) (map pos b)
+  agrees_longer value b h e = agree_from (set a place value) b (place + 1) (λ i k. by i k (cases_lt i place))
     where
-      by : (i < place) ⊎ (place ≤ i) → exponent b i ≡ exponent (set a place value) i
-      by (inl l) = h i l ∙ sym (value_other value i (omega (arith, l)))
-      by (inr l) = let same : i ≡ place = omega (arith, k) in rw same (e ∙ sym (value_there value))
+      by : (i : ℕ) → i < place + 1 → (i < place) ⊎ (place ≤ i) → exponent b i ≡ exponent (set a place value) i
+      by i k (inl l) = same_exponent a b place i h l ∙ sym (value_other value i (omega (arith, l)))
+      by i k (inr l) = let same : i ≡ place = omega (arith, k) in rw same (e ∙ sym (value_there value))
 
   -- what has more at the place comes after all that have the value there
-  above_after : (value : ℕ) (new b : List ℕ) → length new ≡ length a → AgreesTo (place + 1) (set a place value) new → IsCompletion (systems_of rows) place from a b → value < exponent b place → ComesBefore new b
+  above_after : (value : ℕ) (new b : List ℕ) → length new ≡ length a → AgreesTo (place + 1) (map pos (set a place value)) (map pos new) → IsCompletion (systems_of rows) place from a b → value < exponent b place → LexLess (map pos new) (map pos b)
   above_after value new b e h c more =
       comes_before new b place (e ∙ ready.columns ∙ sym c.solves.columns)
       (record {
@@ -79,12 +84,12 @@ module _ (rows : List Row) (a : List ℕ) (place from : ℕ) (ready : AreRows ro
     λ b c. by b c (at_or_above value (exponent b place) (passed b c)),
   )
     where
-      by : (b : List ℕ) → IsCompletion (systems_of rows) place from a b → (exponent b place ≡ value) ⊎ (value < exponent b place) → (set a place value ≡ b) ⊎ ComesBefore (set a place value) b
+      by : (b : List ℕ) → IsCompletion (systems_of rows) place from a b → (exponent b place ≡ value) ⊎ (value < exponent b place) → LexAtMost (map pos (set a place value)) (map pos b)
       by b c (inl e) =
           let l = length-set a place value in
-          inl (same_agreeing (set a place value) b (l ∙ ready.columns ∙ sym c.solves.columns)
+          inr (same_integral (set a place value) b (l ∙ ready.columns ∙ sym c.solves.columns)
           (λ i k. agrees_longer value b c.agrees e i (omega arith)))
-      by b c (inr more) = inr (above_after value (set a place value) b (length-set a place value) (λ i k. refl) c more)
+      by b c (inr more) = inl (above_after value (set a place value) b (length-set a place value) (λ i k. refl) c more)
 
   -- so does a completion of the longer beginning
   pub found_deeper : (value : ℕ) (new : List ℕ) → from ≤ value → Completes (systems_of rows) (place + 1) 0 (set a place value) new true
@@ -99,9 +104,9 @@ module _ (rows : List Row) (a : List ℕ) (place from : ℕ) (ready : AreRows ro
     λ b c. by b c (at_or_above value (exponent b place) (passed b c)),
   )
     where
-      by : (b : List ℕ) → IsCompletion (systems_of rows) place from a b → (exponent b place ≡ value) ⊎ (value < exponent b place) → (new ≡ b) ⊎ ComesBefore new b
+      by : (b : List ℕ) → IsCompletion (systems_of rows) place from a b → (exponent b place ≡ value) ⊎ (value < exponent b place) → LexAtMost (map pos new) (map pos b)
       by b c (inl e) = deeper.1 b (record { solves = c.solves; agrees = agrees_longer value b c.agrees e; above = omega arith })
-      by b c (inr more) = inr (above_after value new b (deeper.0.solves.columns ∙ sym ready.columns) deeper.0.agrees c more)
+      by b c (inr more) = inl (above_after value new b (deeper.0.solves.columns ∙ sym ready.columns) deeper.0.agrees c more)
 
   -- where there is none, the value is passed
   pub passed_deeper : (value : ℕ) → ((b : List ℕ) → IsCompletion (systems_of rows) (place + 1) 0 (set a place value) b → ⊥)

@@ -5,9 +5,10 @@ use Rattle.std.proofs.Common.{ℕ, suc, ◌<◌, ◌≤◌, List, [], ◌∷◌,
 use Rattle.std.proofs.lemmas.Int.{ints}
 use Rattle.lattice_theory.proofs.Members.{Each, empty, more, all_from_each}
 use Rattle.lattice_core.specs.Weights.{Weighted, AreWellFormed, AreWithinLimits, IsMonomial}
-use Rattle.weight_points.specs.Search.{exponent}
+use Rattle.lattice_core.specs.declared.limits.TheConstants.{MOST_DEGREE}
+use Rattle.weight_points.specs.steps.Search.{exponent}
 use Rattle.weight_points.proofs.Weighing.{solution_small}
-use Rattle.weight_points.proofs.Integral.{natural, solution_from_monomial}
+use Rattle.weight_points.proofs.Integral.{solution_of}
 
 -- the entries of natural numbers up to a bound
 each_small : (m : ℕ) (b : List ℕ) → ((i : ℕ) → i < length b → exponent b i ≤ m) → Each (λ e. (pos 0 ≤ℤ e) × (e ≤ℤ pos m)) (map pos b)
@@ -18,10 +19,14 @@ each_small m (n ∷ b) h =
     at : (n : ℕ) → n ≤ m → pos n ≤ℤ pos m
     at n h = omega (arith, ints)
 
+pub entries_small : (systems : List Weighted) (a : List ℤ) → AreWellFormed systems → All (λ s. s.degree ≤ MOST_DEGREE) systems → IsMonomial systems a
+    → All (λ e. (pos 0 ≤ℤ e) × (e ≤ℤ pos MOST_DEGREE)) a
+entries_small systems a formed small m =
+    let s = solution_of systems a m in
+    subst (All (λ e. (pos 0 ≤ℤ e) × (e ≤ℤ pos MOST_DEGREE))) s.is
+    (all_from_each (each_small MOST_DEGREE s.exponents (solution_small systems s.exponents formed small s.solves)))
+
+-- the law
 pub exponents_small : (systems : List Weighted) (a : List ℤ) → AreWellFormed systems → AreWithinLimits systems → IsMonomial systems a
-    → All (λ e. (pos 0 ≤ℤ e) × (e ≤ℤ pos 32_767)) a
-exponents_small systems a formed limits m =
-    let n = natural a m.nonnegative in
-    let solves = solution_from_monomial systems n.exponents (subst (IsMonomial systems) (sym n.is) m) in
-    subst (All (λ e. (pos 0 ≤ℤ e) × (e ≤ℤ pos 32_767))) n.is
-    (all_from_each (each_small 32_767 n.exponents (solution_small systems n.exponents formed limits.degrees solves)))
+    → All (λ e. (pos 0 ≤ℤ e) × (e ≤ℤ pos MOST_DEGREE)) a
+exponents_small systems a formed limits m = entries_small systems a formed limits.degrees m

@@ -1,28 +1,64 @@
 -- Exponents as integers.
 use Rattle.std.specs.List.{All}
 use Rattle.std.specs.Prelude.{ℤ, pos, negsuc, ◌≤ℤ◌}
-use Rattle.std.proofs.Common.{◌≡◌, inl, inr, ℕ, ◌≤◌, List, [], ◌∷◌, map, refl, sym, ap, ◌∙◌, subst, arith}
+use Rattle.std.proofs.Common.{◌≡◌, ℕ, zero, suc, ◌<◌, ◌≤◌, List, [], ◌∷◌, length, map, refl, sym, ap, ◌∙◌, subst, arith}
 use Rattle.std.proofs.lemmas.List.{length-map}
 use Rattle.std.proofs.lemmas.Int.{ints}
 use Rattle.std.proofs.lemmas.List.Elements.{All-nil, All-cons, All-head, All-tail}
-use Rattle.lattice_theory.specs.Vector.{dot}
-use Rattle.lattice_theory.specs.Order.{LexLess, Lists}
-use Rattle.lattice_core.specs.Weights.{Weighted, AreWellFormed, IsMonomial}
-use Rattle.lattice_theory.proofs.Members.{In, in_from_contains, contains_from_in}
-use Rattle.lattice_theory.proofs.Sublists.{in_map, from_map, ascends_map}
-use Rattle.weight_points.specs.Members.{AreMonomials}
-use Rattle.weight_points.specs.Reaches.{spent}
-use Rattle.weight_points.specs.Search.{Solves, ComesBefore}
-use Rattle.weight_points.specs.Listing.{solutions}
-use Rattle.weight_points.proofs.Grids.{are_solutions}
+use Rattle.lattice_theory.specs.Vector.{entry, dot}
+use Rattle.lattice_theory.specs.Order.{LexLess}
+use Rattle.lattice_theory.specs.Grid.{AgreesTo}
 use Rattle.lattice_theory.proofs.Integers.{same_natural}
+use Rattle.lattice_theory.proofs.LexPlaces.{first_difference, lex_at, same_agreeing}
+use Rattle.lattice_core.specs.Weights.{Weighted, IsMonomial}
+use Rattle.weight_points.specs.steps.Reaches.{spent}
+use Rattle.weight_points.specs.steps.Search.{Solves, exponent}
 
--- the same order
-pub lex_from_before : (a b : List ℕ) → ComesBefore a b → LexLess (map pos a) (map pos b)
-lex_from_before [] b h = h
-lex_from_before (x ∷ a) [] h = h
-lex_from_before (x ∷ a) (y ∷ b) (inl h) = inl (omega (arith, ints))
-lex_from_before (x ∷ a) (y ∷ b) (inr h) = inr (ap (λ (n : ℕ). pos n) h.0, lex_from_before a b h.1)
+-- the entries
+pub integral_entry : (a : List ℕ) (i : ℕ) → entry (map pos a) i ≡ pos (exponent a i)
+integral_entry [] i = refl
+integral_entry (n ∷ a) zero = refl
+integral_entry (n ∷ a) (suc i) = integral_entry a i
+
+-- vectors that begin alike
+pub same_exponent : (a b : List ℕ) (k i : ℕ) → AgreesTo k (map pos a) (map pos b) → i < k → exponent b i ≡ exponent a i
+same_exponent a b k i h l = same_natural _ _ (sym (integral_entry b i) ∙ (h i l ∙ integral_entry a i))
+
+pub agree_from : (a b : List ℕ) (k : ℕ) → ((i : ℕ) → i < k → exponent b i ≡ exponent a i) → AgreesTo k (map pos a) (map pos b)
+agree_from a b k h i l = integral_entry b i ∙ (ap (λ (n : ℕ). pos n) (h i l) ∙ sym (integral_entry a i))
+
+-- a and b first differ at the place, where b has more
+pub record DiffersAt (a b : List ℕ) (place : ℕ) : Type 0 where
+  pub within : place < length a
+  pub agrees : AgreesTo place (map pos a) (map pos b)
+  pub less : exponent a place < exponent b place
+
+-- vectors in order differ at some place
+pub differs : (a b : List ℕ) → LexLess (map pos a) (map pos b) → (place : ℕ) × DiffersAt a b place
+differs a b h =
+    let d = first_difference (map pos a) (map pos b) h in
+    let less = d.1.less in
+    let within = d.1.within in
+    let l = length-map a pos in
+    let x = integral_entry a d.0 in
+    let y = integral_entry b d.0 in
+    (d.0, record { within = omega arith; agrees = d.1.agrees; less = omega (arith, ints) })
+
+-- and back
+pub comes_before : (a b : List ℕ) (place : ℕ) → length a ≡ length b → DiffersAt a b place → LexLess (map pos a) (map pos b)
+comes_before a b place e d =
+    let x = integral_entry a place in
+    let y = integral_entry b place in
+    let less = d.less in
+    let l = length-map a pos in
+    lex_at (map pos a) (map pos b) place (l ∙ (e ∙ sym (length-map b pos)))
+    (record { within = let w = d.within in omega arith; agrees = d.agrees; less = omega (arith, ints) })
+
+-- vectors that agree everywhere are the same
+pub same_integral : (a b : List ℕ) → length a ≡ length b → AgreesTo (length a) (map pos a) (map pos b) → map pos a ≡ map pos b
+same_integral a b e h =
+    let l = length-map a pos in
+    same_agreeing (map pos a) (map pos b) (l ∙ (e ∙ sym (length-map b pos))) (λ i k. h i (omega (arith, k)))
 
 -- the weighted degree
 pub degree_is : (weights a : List ℕ) → dot (map pos weights) (map pos a) ≡ pos (spent weights a)
@@ -64,27 +100,13 @@ solution_from_monomial systems a m = record {
   degrees = λ k d h. same_natural _ _ (sym (degree_is _ a) ∙ m.degrees k d h);
 }
 
--- the list of all exponent vectors
-unfoldable pub integral : List (List ℕ) → List (List ℤ)
-integral xs = map (λ a. map pos a) xs
+-- an exponent vector is a solution
+pub record IsSolution (systems : List Weighted) (x : List ℤ) : Type 0 where
+  pub exponents : List ℕ
+  pub is : map pos exponents ≡ x
+  pub solves : Solves systems exponents
 
-pub are_monomials : (systems : List Weighted) → AreWellFormed systems → All (λ s. s.degree ≤ 32_767) systems → AreMonomials systems (integral (solutions systems))
-unfolding integral
-are_monomials systems formed small = record {
-  ascends = ascends_map ComesBefore LexLess (λ a. map pos a) lex_from_before (solutions systems) all.ascends;
-  members = λ x. (λ c. from x (in_from_contains _ c), λ m. contains_from_in (to x m));
-}
-  where
-    all : Lists ComesBefore (Solves systems) (solutions systems)
-    all = are_solutions systems formed small
-
-    from : (x : List ℤ) → In x (map (λ a. map pos a) (solutions systems)) → IsMonomial systems x
-    from x c =
-        let i = from_map (λ (a : List ℕ). map pos a) (solutions systems) c in
-        subst (IsMonomial systems) (sym i.is) (monomial_from_solution systems i.source ((all.members i.source).0 (contains_from_in i.member)))
-
-    to : (x : List ℤ) → IsMonomial systems x → In x (map (λ a. map pos a) (solutions systems))
-    to x m =
-        let n = natural x m.nonnegative in
-        let s = solution_from_monomial systems n.exponents (subst (IsMonomial systems) (sym n.is) m) in
-        subst (λ y. In y (map (λ (a : List ℕ). map pos a) (solutions systems))) n.is (in_map (λ (a : List ℕ). map pos a) (in_from_contains _ ((all.members n.exponents).1 s)))
+pub solution_of : (systems : List Weighted) (x : List ℤ) → IsMonomial systems x → IsSolution systems x
+solution_of systems x m =
+    let n = natural x m.nonnegative in
+    record { exponents = n.exponents; is = n.is; solves = solution_from_monomial systems n.exponents (subst (IsMonomial systems) (sym n.is) m) }

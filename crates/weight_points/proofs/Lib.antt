@@ -1,12 +1,10 @@
 pub mod Weighing
-pub mod Beginnings
+pub mod Integral
 pub mod Completing
 pub mod Reaching
 pub mod Writing
 pub mod Advancing
-pub mod Grids
-pub mod Integral
 pub mod Entries
-pub mod Positions
-pub mod Walks
+pub mod Solutions
 pub mod Collecting
+pub mod Walks

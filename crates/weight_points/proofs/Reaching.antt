@@ -2,7 +2,7 @@
 use Rattle.std.proofs.Common.{◌≡◌, ◌⊎◌, ◌↔◌, inl, inr, ℕ, zero, suc, ◌+◌, ◌-◌, ◌<◌, ◌≤◌, Bool, true, false, List, [], ◌∷◌, ◌++◌, length, get_or, drop, refl, sym, ◌∙◌, arith}
 use Rattle.std.proofs.lemmas.Bool.{cases_lt}
 use Rattle.std.proofs.lemmas.List.{get_or_append_left, get_or_at}
-use Rattle.weight_points.specs.Reaches.{spent, CanTake, IsReach}
+use Rattle.weight_points.specs.steps.Reaches.{spent, CanTake, IsReach}
 
 -- no exponents take nothing
 pub spent_none : (weights : List ℕ) → spent weights [] ≡ 0

@@ -1,130 +1,145 @@
 -- A step from one exponent vector to the next, as a step through the list of all.
-use Rattle.std.specs.List.{Contains, All}
-use Rattle.std.specs.Prelude.{pos}
-use Rattle.std.proofs.Common.{◌≡◌, ◌⊎◌, inl, inr, ℕ, zero, suc, ◌+◌, ◌≤◌, Bool, true, false, List, [], ◌∷◌, ◌++◌, length, map, get_or, replicate, refl, sym, ap, ◌∙◌, subst, arith, min}
-use Rattle.std.proofs.lemmas.List.{length-map, map-append, length-replicate}
-use Rattle.lattice_theory.specs.Order.{Lists}
-use Rattle.lattice_core.specs.Weights.{Weighted, columns_of, AreWellFormed, AreWithinLimits, IsSummed}
+use Rattle.std.specs.List.{All}
+use Rattle.std.specs.Prelude.{ℤ, pos, ◌≤ℤ◌, ◌<ℤ◌}
+use Rattle.std.proofs.Common.{◌≡◌, ◌⊎◌, inl, inr, ℕ, zero, suc, ◌+◌, ◌≤◌, Bool, true, false, List, [], ◌∷◌, ◌++◌, length, map, get_or, replicate}
+use Rattle.std.proofs.Common.{refl, sym, ap, ◌∙◌, subst, arith, min, length-append, append_assoc}
+use Rattle.std.proofs.lemmas.List.{length-map, length-replicate}
+use Rattle.std.proofs.lemmas.Int.{ints}
+use Rattle.lattice_theory.specs.Vector.{entry}
+use Rattle.lattice_theory.specs.Order.{LexLess}
+use Rattle.lattice_theory.specs.Grid.{LexAtMost, IsNext, behind, up_to}
+use Rattle.lattice_theory.proofs.LexPlaces.{first_difference}
+use Rattle.lattice_theory.proofs.LexWalks.{AreUpTo, none_up_to, next_found, all_found, found_first, up_to_lists, up_to_unique}
+use Rattle.lattice_core.specs.declared.limits.TheConstants.{MOST_DEGREE}
+use Rattle.lattice_core.specs.Weights.{Weighted, columns_of, AreWellFormed, AreWithinLimits, IsMonomial, IsSummed}
 use Rattle.weight_points.specs.declared.rows.Row.{Row}
 use Rattle.weight_points.specs.Members.{Walked, AreMonomials, IsMonomialAt, HasMonomials, CountsMonomials}
-use Rattle.weight_points.specs.Reaches.{spent}
-use Rattle.weight_points.specs.Rows.{system_of, systems_of, IsRow, IsFresh, AreRows}
-use Rattle.weight_points.specs.Search.{Solves, ComesBefore, exponent, IsNextSolution}
+use Rattle.weight_points.specs.steps.Reaches.{spent}
+use Rattle.weight_points.specs.steps.Rows.{system_of, systems_of, IsRow, IsFresh, AreRows}
+use Rattle.weight_points.specs.steps.Search.{Solves, exponent}
 use Rattle.weight_points.specs.Listing.{solutions, given_of}
 use Rattle.weight_points.proofs.Weighing.{all_unmap, spent_zeros, degrees_small}
-use Rattle.weight_points.proofs.Grids.{are_solutions}
-use Rattle.weight_points.proofs.Integral.{integral, are_monomials}
-use Rattle.weight_points.proofs.Positions.{comes_next, leading_none, leading_all, leading_within}
+use Rattle.weight_points.proofs.Integral.{solution_from_monomial, integral_entry}
+use Rattle.weight_points.proofs.Solutions.{are_monomials}
+use Rattle.weight_points.proofs.Collecting.{same_monomials}
 
--- vectors of zeros come before all others
-zeros_first : (n : ℕ) (b : List ℕ) → length b ≡ n → (b ≡ replicate n 0) ⊎ ComesBefore (replicate n 0) b
-zeros_first zero [] e = inl refl
-zeros_first zero (x ∷ b) e = absurd (omega arith)
-zeros_first (suc n) [] e = absurd (omega arith)
-zeros_first (suc n) (zero ∷ b) e = by (zeros_first n b (omega arith))
-  where
-    by : (b ≡ replicate n 0) ⊎ ComesBefore (replicate n 0) b → ((zero ∷ b) ≡ (0 ∷ replicate n 0)) ⊎ ComesBefore (0 ∷ replicate n 0) (zero ∷ b)
-    by (inl e) = inl (ap (λ (c : List ℕ). 0 ∷ c) e)
-    by (inr h) = inr (inr (refl, h))
-zeros_first (suc n) (suc x ∷ b) e = inr (inl (omega arith))
-
--- each of their entries is 0
+-- each entry of a vector of zeros is 0
 zero_entry : (n i : ℕ) → exponent (replicate n 0) i ≡ 0
 zero_entry zero i = refl
 zero_entry (suc n) zero = refl
 zero_entry (suc n) (suc i) = zero_entry n i
 
 module _ (rows : List Row) (a : List ℕ) (ready : AreRows rows a) where
-  all_solutions : Lists ComesBefore (Solves (systems_of rows)) (solutions (systems_of rows))
-  all_solutions = are_solutions (systems_of rows) ready.formed (degrees_small rows a ready.each)
+  abbrev systems : List Weighted
+  systems = systems_of rows
 
-  all_monomials : AreMonomials (systems_of rows) (integral (solutions (systems_of rows)))
-  all_monomials = are_monomials (systems_of rows) ready.formed (degrees_small rows a ready.each)
+  abbrev here : List ℤ
+  here = map pos a
 
-  solution_columns : (b : List ℕ) → Contains (solutions (systems_of rows)) b → length b ≡ length a
-  solution_columns b c = ((all_solutions.members b).0 c).columns ∙ sym ready.columns
+  all_monomials : AreMonomials systems (solutions systems)
+  all_monomials = are_monomials systems ready.formed (degrees_small rows a ready.each)
 
-  integral_length : (xs : List (List ℕ)) → length (integral xs) ≡ length xs
-  unfolding integral
-  integral_length xs = length-map xs (λ a. map pos a)
+  columns : length here ≡ columns_of systems
+  columns = length-map a pos ∙ ready.columns
+
+  found : AreUpTo (IsMonomial systems) here (up_to here (solutions systems))
+  found = up_to_lists (IsMonomial systems) (columns_of systems) (λ y m. m.columns) here (solutions systems) columns all_monomials
+
+  -- with the next one, these are those up to it
+  one_more_found : (new : List ℕ) → IsNext (IsMonomial systems) here (map pos new) → up_to (map pos new) (solutions systems) ≡ up_to here (solutions systems) ++ map pos new ∷ []
+  one_more_found new next =
+      up_to_unique (IsMonomial systems) (map pos new) (up_to (map pos new) (solutions systems)) (up_to here (solutions systems) ++ map pos new ∷ [])
+      (up_to_lists (IsMonomial systems) (columns_of systems) (λ y m. m.columns) (map pos new) (solutions systems) next.holds.columns all_monomials)
+      (next_found (IsMonomial systems) (columns_of systems) (λ y m. m.columns) here (map pos new) (up_to here (solutions systems)) columns found next)
 
   -- one more is given
-  pub more_given : (new : List ℕ) → IsNextSolution (systems_of rows) a new → given_of (systems_of rows) new false ≡ given_of (systems_of rows) a false + 1
+  pub more_given : (new : List ℕ) → IsNext (IsMonomial systems) here (map pos new) → given_of systems (map pos new) false ≡ given_of systems here false + 1
   unfolding given_of
-  more_given new s =
-      let next = comes_next (length a) a new refl (s.solves.columns ∙ sym ready.columns) s.later (solutions (systems_of rows)) all_solutions.ascends solution_columns
-      ((all_solutions.members new).1 s.solves) (λ b c. s.first b ((all_solutions.members b).0 c)) in
-      let more = next.more in
-      omega arith
+  more_given new next = ap length (one_more_found new next) ∙ length-append (up_to here (solutions systems)) (map pos new ∷ [])
 
   -- and that is the next one
-  pub next_given : (new : List ℕ) → IsNextSolution (systems_of rows) a new → IsMonomialAt (systems_of rows) (given_of (systems_of rows) a false) (map pos new)
-  unfolding given_of integral
-  next_given new s =
-      let next = comes_next (length a) a new refl (s.solves.columns ∙ sym ready.columns) s.later (solutions (systems_of rows)) all_solutions.ascends solution_columns
-      ((all_solutions.members new).1 s.solves) (λ b c. s.first b ((all_solutions.members b).0 c)) in
-      let split : integral (solutions (systems_of rows)) ≡ integral next.place.before ++ map pos new ∷ integral next.place.after =
-      ap integral next.place.split ∙ map-append (λ (b : List ℕ). map pos b) next.place.before (new ∷ next.place.after) in
+  pub next_given : (new : List ℕ) → IsNext (IsMonomial systems) here (map pos new) → IsMonomialAt systems (given_of systems here false) (map pos new)
+  unfolding given_of
+  next_given new next =
+      let front = up_to here (solutions systems) in
+      let rest = behind (map pos new) (solutions systems) in
+      let split = found_first (IsMonomial systems) (columns_of systems) (λ y m. m.columns) (map pos new) (front ++ map pos new ∷ []) (solutions systems)
+      next.holds.columns (next_found (IsMonomial systems) (columns_of systems) (λ y m. m.columns) here (map pos new) front columns found next) all_monomials in
       record {
-        before = integral next.place.before;
-        after = integral next.place.after;
-        are_monomials = subst (AreMonomials (systems_of rows)) split all_monomials;
-        count = integral_length next.place.before ∙ next.place.count;
+        before = front;
+        after = rest;
+        are_monomials = subst (AreMonomials systems) (split ∙ append_assoc front (map pos new ∷ []) rest) all_monomials;
+        count = refl;
       }
 
   -- all are given, where nothing comes later
-  pub all_given : ((b : List ℕ) → Solves (systems_of rows) b → ComesBefore a b → ⊥) → given_of (systems_of rows) a false ≡ length (solutions (systems_of rows))
+  pub all_given : ((z : List ℤ) → IsMonomial systems z → LexLess here z → ⊥) → given_of systems here false ≡ length (solutions systems)
   unfolding given_of
-  all_given none = leading_all (length a) a (solutions (systems_of rows)) refl solution_columns (λ b c. none b ((all_solutions.members b).0 c))
+  all_given none =
+      ap length (same_monomials systems (up_to here (solutions systems)) (solutions systems)
+      (all_found (IsMonomial systems) (columns_of systems) (λ y m. m.columns) here (up_to here (solutions systems)) columns found none) all_monomials)
 
-  pub has_all : (count : ℕ) → count ≡ length (solutions (systems_of rows)) → HasMonomials (systems_of rows) count
-  has_all count e = record { members = integral (solutions (systems_of rows)); are_monomials = all_monomials; count_is = integral_length (solutions (systems_of rows)) ∙ sym e }
+  pub has_all : (count : ℕ) → count ≡ length (solutions systems) → HasMonomials systems count
+  has_all count e = record { members = solutions systems; are_monomials = all_monomials; count_is = sym e }
 
   -- no more are given than there are
-  pub given_within : given_of (systems_of rows) a false ≤ length (solutions (systems_of rows))
+  pub given_within : given_of systems here false ≤ length (solutions systems)
   unfolding given_of
-  given_within = leading_within a (solutions (systems_of rows))
+  given_within =
+      let front = up_to here (solutions systems) in
+      let split = found_first (IsMonomial systems) (columns_of systems) (λ y m. m.columns) here front (solutions systems) columns found all_monomials in
+      let l = ap length split ∙ length-append front (behind here (solutions systems)) in
+      omega arith
 
-  pub counts : (limit counted : ℕ) → counted ≡ min (length (solutions (systems_of rows))) (limit + 1) → CountsMonomials (systems_of rows) limit counted
-  counts limit counted e = record { members = integral (solutions (systems_of rows)); are_monomials = all_monomials; counted_is = e ∙ ap (λ (n : ℕ). min n (limit + 1)) (sym (integral_length (solutions (systems_of rows)))) }
+  pub counts : (limit counted : ℕ) → counted ≡ min (length (solutions systems)) (limit + 1) → CountsMonomials systems limit counted
+  counts limit counted e = record { members = solutions systems; are_monomials = all_monomials; counted_is = e }
 
   -- the first system takes more than zeros give
-  zeros_unsolved : (n : ℕ) → Solves (systems_of rows) (replicate n 0) → ⊥
-  zeros_unsolved n s = by (systems_of rows) ready.formed s
+  zeros_unsolved : (n : ℕ) → Solves systems (replicate n 0) → ⊥
+  zeros_unsolved n s = by systems ready.formed s
     where
-      by : (systems : List Weighted) → AreWellFormed systems → Solves systems (replicate n 0) → ⊥
+      by : (ss : List Weighted) → AreWellFormed ss → Solves ss (replicate n 0) → ⊥
       by [] formed t = let some = formed.some in omega arith
-      by (system ∷ systems) formed t =
-          let summed : IsSummed (columns_of (system ∷ systems)) system = formed.summed 0 system (omega arith) in
+      by (system ∷ ss) formed t =
+          let summed : IsSummed (columns_of (system ∷ ss)) system = formed.summed 0 system (omega arith) in
           let positive = summed.positive in
           let all : spent system.weights (replicate n 0) ≡ system.degree = t.degrees 0 system (omega arith) in
           let none = spent_zeros system.weights (replicate n 0) (λ i h. zero_entry n i) in
           omega arith
 
   -- at first none is given
-  pub none_given : a ≡ replicate (length a) 0 → given_of (systems_of rows) a false ≡ 0
+  pub none_given : a ≡ replicate (length a) 0 → given_of systems here false ≡ 0
   unfolding given_of
-  none_given e = leading_none a (solutions (systems_of rows)) (λ b c. by b c (zeros_first (length a) b (solution_columns b c)))
+  none_given e =
+      ap length (up_to_unique (IsMonomial systems) here (up_to here (solutions systems)) [] found (none_up_to (IsMonomial systems) here none))
     where
-      by : (b : List ℕ) → Contains (solutions (systems_of rows)) b → (b ≡ replicate (length a) 0) ⊎ ComesBefore (replicate (length a) 0) b → ComesBefore a b
-      by b c (inl h) = absurd (zeros_unsolved (length a) (subst (Solves (systems_of rows)) h ((all_solutions.members b).0 c)))
-      by b c (inr h) = subst (λ x. ComesBefore x b) (sym e) h
+      none : (y : List ℤ) → IsMonomial systems y → LexAtMost y here → ⊥
+      none y m (inr same) =
+          zeros_unsolved (length a) (subst (Solves systems) e (solution_from_monomial systems a (subst (IsMonomial systems) same m)))
+      none y m (inl less) =
+          let d = first_difference y here less in
+          let within = d.1.within in
+          let nonnegative = m.nonnegative d.0 (pos 0) within in
+          let zero_there : exponent a d.0 ≡ 0 = ap (λ (x : List ℕ). exponent x d.0) e ∙ zero_entry (length a) d.0 in
+          let there = integral_entry a d.0 in
+          let below = d.1.less in
+          omega (arith, ints, nonnegative)
 
 -- a walk whose systems and number are the same is the same
 pub same_walk : (s t : List Weighted) (m n : ℕ) → s ≡ t → m ≡ n → ◌≡◌ {A = Walked} (record { systems = s; given = m }) (record { systems = t; given = n })
 same_walk s t m n e f = λ i. record { systems = e i; given = f i }
 
 -- where the walk is finished, all are given
-pub finished_given : (systems : List Weighted) (a : List ℕ) → given_of systems a true ≡ length (solutions systems)
+pub finished_given : (ss : List Weighted) (a : List ℕ) → given_of ss (map pos a) true ≡ length (solutions ss)
 unfolding given_of
-finished_given systems a = refl
+finished_given ss a = refl
 
-pub finished_has : (rows : List Row) (a : List ℕ) (finished : Bool) → AreRows rows a → finished ≡ true → HasMonomials (systems_of rows) (given_of (systems_of rows) a finished)
-finished_has rows a true ready e = has_all rows a ready (given_of (systems_of rows) a true) (finished_given (systems_of rows) a)
+pub finished_has : (rows : List Row) (a : List ℕ) (finished : Bool) → AreRows rows a → finished ≡ true → HasMonomials (systems_of rows) (given_of (systems_of rows) (map pos a) finished)
+finished_has rows a true ready e = has_all rows a ready (given_of (systems_of rows) (map pos a) true) (finished_given (systems_of rows) a)
 finished_has rows a false ready e = absurd cc
 
 -- fresh rows stand beside zeros
-fresh_row : (row : Row) (n : ℕ) → length row.system.weights.items ≡ n → row.system.degree ≤ 32_767 → IsFresh row → IsRow (replicate n 0) row
+fresh_row : (row : Row) (n : ℕ) → length row.system.weights.items ≡ n → row.system.degree ≤ MOST_DEGREE → IsFresh row → IsRow (replicate n 0) row
 fresh_row row n columns small f = record {
   columns = columns ∙ sym (length-replicate n 0);
   spent_is = let none = spent_zeros row.system.weights.items (replicate n 0) (λ i h. zero_entry n i) in let e = f.left_is in omega arith;
@@ -132,11 +147,11 @@ fresh_row row n columns small f = record {
   reaches = f.reaches;
 }
 
-pub fresh_rows : (rows : List Row) → AreWellFormed (systems_of rows) → All (λ s. s.degree ≤ 32_767) (systems_of rows) → All IsFresh rows → AreRows rows (replicate (columns_of (systems_of rows)) 0)
+pub fresh_rows : (rows : List Row) → AreWellFormed (systems_of rows) → All (λ s. s.degree ≤ MOST_DEGREE) (systems_of rows) → All IsFresh rows → AreRows rows (replicate (columns_of (systems_of rows)) 0)
 fresh_rows rows formed small fresh =
     let n = columns_of (systems_of rows) in
     let summed = all_unmap (IsSummed n) system_of rows formed.summed in
-    let degrees = all_unmap (λ s. s.degree ≤ 32_767) system_of rows small in
+    let degrees = all_unmap (λ s. s.degree ≤ MOST_DEGREE) system_of rows small in
     record {
       formed = formed;
       columns = length-replicate n 0;
@@ -146,7 +161,7 @@ fresh_rows rows formed small fresh =
 -- a walk that begins
 pub record Begins (rows : List Row) (a : List ℕ) : Type 0 where
   pub ready : AreRows rows a
-  pub given : given_of (systems_of rows) a false ≡ 0
+  pub given : given_of (systems_of rows) (map pos a) false ≡ 0
 
 pub begins : (systems : List Weighted) (rows : List Row) (a : List ℕ) → AreWellFormed systems → AreWithinLimits systems → systems_of rows ≡ systems → All IsFresh rows
     → a ≡ replicate (columns_of systems) 0 → Begins rows a
@@ -158,14 +173,14 @@ begins systems rows a formed limits same fresh zeros =
     record { ready = ready; given = none_given rows a ready (rw ready.columns zeros') }
 
 -- the count of all, where nothing comes later
-pub counted_all : (systems : List Weighted) (rows : List Row) (a : List ℕ) (count limit : ℕ) → systems_of rows ≡ systems → AreRows rows a → given_of (systems_of rows) a false ≡ count → count ≤ limit
-    → ((b : List ℕ) → Solves (systems_of rows) b → ComesBefore a b → ⊥) → CountsMonomials systems limit count
+pub counted_all : (systems : List Weighted) (rows : List Row) (a : List ℕ) (count limit : ℕ) → systems_of rows ≡ systems → AreRows rows a → given_of (systems_of rows) (map pos a) false ≡ count → count ≤ limit
+    → ((z : List ℤ) → IsMonomial (systems_of rows) z → LexLess (map pos a) z → ⊥) → CountsMonomials systems limit count
 counted_all systems rows a count limit same ready given within none =
     let all = all_given rows a ready none in
     subst (λ s. CountsMonomials s limit count) same (counts rows a ready limit count (omega arith))
 
 -- or more than the limit
-pub counted_more : (systems : List Weighted) (rows : List Row) (a : List ℕ) (limit : ℕ) → systems_of rows ≡ systems → AreRows rows a → given_of (systems_of rows) a false ≡ limit + 1
+pub counted_more : (systems : List Weighted) (rows : List Row) (a : List ℕ) (limit : ℕ) → systems_of rows ≡ systems → AreRows rows a → given_of (systems_of rows) (map pos a) false ≡ limit + 1
     → CountsMonomials systems limit (limit + 1)
 counted_more systems rows a limit same ready given =
     let within = given_within rows a ready in

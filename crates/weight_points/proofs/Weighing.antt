@@ -4,11 +4,12 @@ use Rattle.std.proofs.Common.{◌≡◌, ℕ, zero, suc, ◌+◌, ◌-◌, ◌*�
 use Rattle.std.proofs.Math.ListN.{set, length-set}
 use Rattle.std.proofs.Math.Nat.{le-mul_of_pos_right, mul-le-mul_right}
 use Rattle.std.proofs.lemmas.List.Elements.{All-nil, All-cons, All-head, All-tail, All-map, All-contains}
+use Rattle.lattice_core.specs.declared.limits.TheConstants.{MOST_DEGREE}
 use Rattle.lattice_core.specs.Weights.{Weighted, columns_of, AreWellFormed, IsSummed}
 use Rattle.weight_points.specs.declared.rows.Row.{Row}
-use Rattle.weight_points.specs.Reaches.{spent}
-use Rattle.weight_points.specs.Rows.{system_of, systems_of, weight_at, HasPlace, IsAffordable, IsPlausible, spending, returning, IsReturnable, IsRow, AreRows}
-use Rattle.weight_points.specs.Search.{Solves, exponent, AgreesTo, IsZeroFrom}
+use Rattle.weight_points.specs.steps.Reaches.{spent}
+use Rattle.weight_points.specs.steps.Rows.{system_of, systems_of, weight_at, HasPlace, IsAffordable, IsPlausible, spending, returning, IsReturnable, IsRow, AreRows}
+use Rattle.weight_points.specs.steps.Search.{Solves, exponent, IsZeroFrom}
 
 -- what holds of each member of a map holds of the images
 pub all_unmap : {X Y : Type 0} (P : Y → Type 0) (f : X → Y) (xs : List X) → All P (map f xs) → All (λ x. P (f x)) xs
@@ -40,7 +41,7 @@ spent_zeros (w ∷ weights) (x ∷ a) z =
     rw (first, r) (omega arith)
 
 -- with exponents that begin alike, where behind the place one has only 0
-pub spent_behind : (weights a b : List ℕ) (place : ℕ) → length weights ≡ length a → length b ≡ length a → place < length a → AgreesTo place a b → IsZeroFrom place a
+pub spent_behind : (weights a b : List ℕ) (place : ℕ) → length weights ≡ length a → length b ≡ length a → place < length a → ((i : ℕ) → i < place → exponent b i ≡ exponent a i) → IsZeroFrom place a
     → spent weights b ≡ spent weights a + (exponent b place * get_or weights place 0 + spent (drop (suc place) weights) (drop (suc place) b))
 spent_behind weights [] b place e f h agree z = absurd (omega arith)
 spent_behind [] (x ∷ a) b place e f h agree z = absurd (omega arith)
@@ -55,7 +56,7 @@ spent_behind (w ∷ weights) (x ∷ a) (y ∷ b) (suc place) e f h agree z =
     rw (first, r) (omega arith)
 
 -- so the exponent at the place is plausible, where the other exponents take the whole degree
-pub plausible_row : (row : Row) (a b : List ℕ) (place : ℕ) → IsRow a row → length b ≡ length a → place < length a → AgreesTo place a b → IsZeroFrom place a
+pub plausible_row : (row : Row) (a b : List ℕ) (place : ℕ) → IsRow a row → length b ≡ length a → place < length a → ((i : ℕ) → i < place → exponent b i ≡ exponent a i) → IsZeroFrom place a
     → spent row.system.weights.items b ≡ row.system.degree → IsPlausible place (exponent b place) row
 plausible_row row a b place r f h agree z e =
     let s = spent_behind row.system.weights.items a b place r.columns f h agree z in
@@ -142,13 +143,13 @@ returned place value (row ∷ rows) h =
     λ i. first i ∷ others i
 
 -- no exponent of a solution is above the greatest degree
-pub solution_small : (systems : List Weighted) (b : List ℕ) → AreWellFormed systems → All (λ s. s.degree ≤ 32_767) systems → Solves systems b
-    → (i : ℕ) → i < length b → exponent b i ≤ 32_767
+pub solution_small : (systems : List Weighted) (b : List ℕ) → AreWellFormed systems → All (λ s. s.degree ≤ MOST_DEGREE) systems → Solves systems b
+    → (i : ℕ) → i < length b → exponent b i ≤ MOST_DEGREE
 solution_small systems b formed small solves i h =
     let used = formed.used i (let e = solves.columns in omega arith) in
     let s = used.system in
     let positive = used.positive in
-    let degree : s.degree ≤ 32_767 = All-contains (λ s. s.degree ≤ 32_767) systems s small used.member in
+    let degree : s.degree ≤ MOST_DEGREE = All-contains (λ s. s.degree ≤ MOST_DEGREE) systems s small used.member in
     let all : spent s.weights b ≡ s.degree = All-contains (λ s. spent s.weights b ≡ s.degree) systems s solves.degrees used.member in
     let summed : IsSummed (columns_of systems) s = All-contains (IsSummed (columns_of systems)) systems s formed.summed used.member in
     let part = spent_part s.weights b i (summed.columns ∙ sym solves.columns) h in
@@ -156,8 +157,8 @@ solution_small systems b formed small solves i h =
     omega arith
 
 -- the same beside rows
-pub degrees_small : (rows : List Row) (a : List ℕ) → All (IsRow a) rows → All (λ s. s.degree ≤ 32_767) (systems_of rows)
-degrees_small rows a each = All-map (λ s. s.degree ≤ 32_767) system_of rows (λ k d h. (each k d h).small)
+pub degrees_small : (rows : List Row) (a : List ℕ) → All (IsRow a) rows → All (λ s. s.degree ≤ MOST_DEGREE) (systems_of rows)
+degrees_small rows a each = All-map (λ s. s.degree ≤ MOST_DEGREE) system_of rows (λ k d h. (each k d h).small)
 
 -- less is affordable, too
 pub affordable_less : (place value more : ℕ) (row : Row) → value ≤ more → IsAffordable place more row → IsAffordable place value row
@@ -166,12 +167,12 @@ affordable_less place value more row h k = let m : value * weight_at row place �
 -- exponents take no more than the degree of a system, which isn't large
 record FitsBeside (a : List ℕ) (system : Weighted) : Type 0 where
   columns : length system.weights ≡ length a
-  most : spent system.weights a ≤ 32_767
+  most : spent system.weights a ≤ MOST_DEGREE
 
 fits_beside : (a : List ℕ) (row : Row) → IsRow a row → FitsBeside a (system_of row)
 fits_beside a row r = record { columns = r.columns; most = let s = r.spent_is in let m = r.small in omega arith }
 
-beside_part : (a : List ℕ) (system : Weighted) (place : ℕ) → FitsBeside a system → place < length a → exponent a place * get_or system.weights place 0 ≤ 32_767
+beside_part : (a : List ℕ) (system : Weighted) (place : ℕ) → FitsBeside a system → place < length a → exponent a place * get_or system.weights place 0 ≤ MOST_DEGREE
 beside_part a system place f h = let part = spent_part system.weights a place f.columns h in let m = f.most in omega arith
 
 -- a value is written over 0 in each row
@@ -192,12 +193,12 @@ clear_ready rows a place r h = record {
 }
 
 -- no exponent is above the greatest degree
-pub exponent_small : (rows : List Row) (a : List ℕ) (place : ℕ) → AreRows rows a → place < length a → exponent a place ≤ 32_767
+pub exponent_small : (rows : List Row) (a : List ℕ) (place : ℕ) → AreRows rows a → place < length a → exponent a place ≤ MOST_DEGREE
 exponent_small rows a place r h =
     let used = r.formed.used place (let e = r.columns in omega arith) in
     let s = used.system in
     let positive = used.positive in
     let most : exponent a place ≤ exponent a place * get_or s.weights place 0 = le-mul_of_pos_right _ positive in
-    let bound : (t : Weighted) → FitsBeside a t → exponent a place * get_or t.weights place 0 ≤ 32_767 = λ t f. beside_part a t place f h in
+    let bound : (t : Weighted) → FitsBeside a t → exponent a place * get_or t.weights place 0 ≤ MOST_DEGREE = λ t f. beside_part a t place f h in
     let here = bound s (All-contains (FitsBeside a) (systems_of rows) s (All-map (FitsBeside a) system_of rows (λ i d l. fits_beside a (get_or rows i d) (r.each i d l))) used.member) in
     omega arith

@@ -2,6 +2,7 @@
 use Rattle.std.specs.Prelude.{ℕ, ◌+◌, List, [], ◌∷◌, ◌++◌, ℤ, pos, ◌≤ℤ◌}
 use Rattle.std.specs.List.{All}
 use Rattle.lattice_core.specs.Weights.{Weighted, IsMonomial, AreWellFormed, AreWithinLimits}
+use Rattle.lattice_core.specs.declared.limits.TheConstants.{MOST_DEGREE}
 use Rattle.weight_points.specs.Members.{AreMonomials, IsMonomialAt, HasMonomials, AreFirst}
 
 -- at the start nothing is given
@@ -18,7 +19,7 @@ abbrev pub FirstAreAll : Type 0
 FirstAreAll = (systems : List Weighted) (count : ℕ) (xs : List (List ℤ))
     → AreFirst systems count xs → HasMonomials systems count → AreMonomials systems xs
 
--- each entry of an exponent vector is from 0 to 32,767, the greatest degree
+-- each entry of an exponent vector is from 0 to the largest degree
 abbrev pub ExponentsAreSmall : Type 0
 ExponentsAreSmall = (systems : List Weighted) (a : List ℤ) → AreWellFormed systems → AreWithinLimits systems → IsMonomial systems a
-    → All (λ e. (pos 0 ≤ℤ e) × (e ≤ℤ pos 32_767)) a
+    → All (λ e. (pos 0 ≤ℤ e) × (e ≤ℤ pos MOST_DEGREE)) a

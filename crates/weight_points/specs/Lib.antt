@@ -1,6 +1,4 @@
 pub mod Members
-pub mod Reaches
-pub mod Rows
-pub mod Search
+pub mod steps
 pub mod Listing
 pub mod Laws

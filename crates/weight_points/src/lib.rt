@@ -15,4 +15,3 @@ mod search;
 
 pub use laws::{exponents_are_small, given_vectors_are_all};
 pub use monomials::{Monomials, count_to};
-pub use rows::MOST_DEGREE;

@@ -2,10 +2,11 @@
 
 ghost use Rattle.std.specs.Prelude.{◌≡◌, ◌^◌, ◌≤◌, List, [], length, map, replicate, pos, IfOk};
 ghost use Rattle.std.specs.List.{All};
-ghost use Rattle.lattice_core.specs.Weights.{weighted_all, columns_of, AreWellFormed, AreWithinLimits};
+ghost use Rattle.lattice_theory.specs.Grid.{Follows};
+ghost use Rattle.lattice_core.specs.Weights.{weighted_all, columns_of, IsMonomial, AreWellFormed, AreWithinLimits};
+ghost use Rattle.lattice_core.specs.declared.limits.TheConstants.{MOST_DEGREE};
 ghost use Rattle.weight_points.specs.Members.{GivesNext, CountsMonomials};
-ghost use Rattle.weight_points.specs.Rows.{systems_of, AreRows};
-ghost use Rattle.weight_points.specs.Search.{Follows};
+ghost use Rattle.weight_points.specs.steps.Rows.{systems_of, AreRows};
 
 use crate::rows::{Row, rows_of};
 use crate::search::advance;
@@ -23,13 +24,14 @@ pub struct Monomials {
 }
 
 impl Model for Monomials {
+    ghost use Rattle.std.specs.Prelude.{map, pos};
     ghost use Rattle.weight_points.specs.Members.{Walked};
-    ghost use Rattle.weight_points.specs.Rows.{systems_of, AreRows};
+    ghost use Rattle.weight_points.specs.steps.Rows.{systems_of, AreRows};
     ghost use Rattle.weight_points.specs.Listing.{given_of};
 
     ghost Value = { Walked };
 
-    ghost view = { λ m. record { systems = systems_of m.rows.items; given = given_of (systems_of m.rows.items) m.entries.items m.finished } };
+    ghost view = { λ m. record { systems = systems_of m.rows.items; given = given_of (systems_of m.rows.items) (map pos m.entries.items) m.finished } };
 
     ghost invariant = { λ m. AreRows m.rows.items m.entries.items };
 }
@@ -58,7 +60,7 @@ fn zeros(alloc: Global, systems: &[WeightSystem]) -> Result<Vec<u64>, NoMemory>
 /// Writes exponents as integers.
 fn write(exponents: &[u64], out: &mut [i64])
     requires columns { length out.old ≡ length exponents.now }
-    requires small { All (λ e. e ≤ 32_767) exponents.now }
+    requires small { All (λ e. e ≤ MOST_DEGREE) exponents.now }
     ensures { out.new ≡ map pos exponents.now }
 {
     for (i, exponent) in exponents.iter().enumerate() {
@@ -71,7 +73,7 @@ fn step(rows: &mut Vec<Row>, entries: &mut Vec<u64>) -> bool
     requires { AreRows rows.old.items entries.old.items }
     ensures systems { systems_of rows.new.items ≡ systems_of rows.old.items }
     ensures ready { AreRows rows.new.items entries.new.items }
-    ensures follows { Follows (systems_of rows.old.items) entries.old.items entries.new.items result }
+    ensures follows { Follows (IsMonomial (systems_of rows.old.items)) (map pos entries.old.items) (map pos entries.new.items) result }
 {
     advance(rows.as_mut_slice(), entries.as_mut_slice())
 }

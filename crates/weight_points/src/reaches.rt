@@ -1,14 +1,15 @@
 //! What weights can take exactly.
 
 ghost use Rattle.std.specs.Prelude.{◌≡◌, ℕ, ◌+◌, ◌-◌, ◌<◌, ◌≤◌, ◌⊎◌, ◌↔◌, true, false, List, [], ◌∷◌, length, map, IsTrue, IfOk, slice_index_or};
-ghost use Rattle.weight_points.specs.Reaches.{IsReach, AreReaches};
+ghost use Rattle.lattice_core.specs.declared.limits.TheConstants.{MOST_DEGREE};
+ghost use Rattle.weight_points.specs.steps.Reaches.{IsReach, AreReaches};
 
 use lattice_core::NoMemory;
 use std::alloc::Global;
 
 /// What no weights take exactly, of the numbers up to the degree: 0 alone.
 fn reach_of_none(alloc: Global, degree: usize) -> Result<Vec<bool>, NoMemory>
-    requires { degree ≤ 32_767 }
+    requires { degree ≤ MOST_DEGREE }
     ensures reach { IfOk result (λ reach. IsReach [] reach.items) }
     ensures columns { IfOk result (λ reach. length reach.items ≡ degree + 1) }
 {
@@ -51,7 +52,7 @@ pub(crate) fn reaches_of(
     weights: &[u64],
     degree: u64,
 ) -> Result<Vec<Vec<bool>>, NoMemory>
-    requires { degree ≤ 32_767 }
+    requires { degree ≤ MOST_DEGREE }
     ensures { IfOk result (λ reaches. AreReaches weights.now degree (map (λ reach. reach.items) reaches.items)) }
 {
     let mut reaches = Vec::new(alloc);

@@ -3,14 +3,12 @@
 ghost use Rattle.std.specs.Prelude.{◌≡◌, ◌↔◌, ℕ, ◌+◌, ◌*◌, ◌<◌, ◌≤◌, List, length, map, IsTrue, IfOk};
 ghost use Rattle.std.specs.List.{All};
 ghost use Rattle.lattice_core.specs.Weights.{weighted, weighted_all};
-ghost use Rattle.weight_points.specs.Rows.{system_of, systems_of, HasPlace, IsAffordable, IsPlausible, IsReturnable, spending, returning, IsFresh};
+ghost use Rattle.lattice_core.specs.declared.limits.TheConstants.{MOST_DEGREE};
+ghost use Rattle.weight_points.specs.steps.Rows.{system_of, systems_of, HasPlace, IsAffordable, IsPlausible, IsReturnable, spending, returning, IsFresh};
 
 use crate::reaches::reaches_of;
-use lattice_core::{NoMemory, WeightSystem};
+use lattice_core::{MOST_DEGREE, NoMemory, WeightSystem};
 use std::alloc::Global;
-
-/// The greatest degree of a weight system within the limits. This project's own.
-pub const MOST_DEGREE: u64 = 32_767;
 
 /// A weight system beside exponents.
 #[derive(Drop)]
@@ -79,9 +77,9 @@ pub(crate) fn first_value(rows: &[Row], place: usize) -> u64
 /// An affordable value that no value up to the greatest degree that is plausible for all rows is above.
 pub(crate) fn last_value(rows: &[Row], place: usize) -> u64
     requires { All (HasPlace place) rows.now }
-    ensures bound { result ≤ 32_767 }
+    ensures bound { result ≤ MOST_DEGREE }
     ensures affordable { All (IsAffordable place result) rows.now }
-    ensures greatest { (value : ℕ) → value ≤ 32_767 → All (IsPlausible place value) rows.now → value ≤ result }
+    ensures greatest { (value : ℕ) → value ≤ MOST_DEGREE → All (IsPlausible place value) rows.now → value ≤ result }
 {
     let mut last = MOST_DEGREE;
     for row in rows {
@@ -128,7 +126,7 @@ pub(crate) fn give_back(rows: &mut [Row], place: usize, value: u64)
 
 /// The row of a weight system beside exponents that are all 0.
 fn row_of(alloc: Global, system: &WeightSystem) -> Result<Row, NoMemory>
-    requires { system.now.degree ≤ 32_767 }
+    requires { system.now.degree ≤ MOST_DEGREE }
     ensures system { IfOk result (λ row. system_of row ≡ weighted system.now) }
     ensures fresh { IfOk result IsFresh }
 {
@@ -146,7 +144,7 @@ fn row_of(alloc: Global, system: &WeightSystem) -> Result<Row, NoMemory>
 
 /// The rows of weight systems beside exponents that are all 0.
 pub(crate) fn rows_of(alloc: Global, systems: &[WeightSystem]) -> Result<Vec<Row>, NoMemory>
-    requires { All (λ s. s.degree ≤ 32_767) (weighted_all systems.now) }
+    requires { All (λ s. s.degree ≤ MOST_DEGREE) (weighted_all systems.now) }
     ensures systems { IfOk result (λ rows. systems_of rows.items ≡ weighted_all systems.now) }
     ensures fresh { IfOk result (λ rows. All IsFresh rows.items) }
 {

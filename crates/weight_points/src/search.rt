@@ -1,10 +1,13 @@
 //! The search for the next vector of exponents. It goes on from a beginning only where the further weights of each system can take exactly
 //! what is left of its degree.
 
-ghost use Rattle.std.specs.Prelude.{◌≡◌, ◌<◌, ◌≤◌, length, map, false, slice_set};
+ghost use Rattle.std.specs.Prelude.{◌≡◌, ◌<◌, ◌≤◌, length, map, pos, false, slice_set};
 ghost use Rattle.std.specs.List.{All};
-ghost use Rattle.weight_points.specs.Rows.{systems_of, AreRows, IsAffordable, spending, returning};
-ghost use Rattle.weight_points.specs.Search.{exponent, IsZeroFrom, Completes, Follows};
+ghost use Rattle.lattice_theory.specs.Grid.{Follows};
+ghost use Rattle.lattice_core.specs.Weights.{IsMonomial};
+ghost use Rattle.lattice_core.specs.declared.limits.TheConstants.{MOST_DEGREE};
+ghost use Rattle.weight_points.specs.steps.Rows.{systems_of, AreRows, IsAffordable, spending, returning};
+ghost use Rattle.weight_points.specs.steps.Search.{exponent, IsZeroFrom, Completes};
 
 use crate::rows::{Row, first_value, give_back, is_plausible, last_value, spend};
 
@@ -30,7 +33,7 @@ fn clear(rows: &mut [Row], entries: &mut [u64], place: usize) -> u64
     ensures rows { rows.new ≡ map (returning place result) rows.old }
     ensures entries { entries.new ≡ slice_set entries.old place 0 }
     ensures ready { AreRows rows.new entries.new }
-    ensures bound { result ≤ 32_767 }
+    ensures bound { result ≤ MOST_DEGREE }
 {
     let value = entries[place];
     give_back(rows, place, value);
@@ -68,7 +71,7 @@ pub(crate) fn advance(rows: &mut [Row], entries: &mut [u64]) -> bool
     requires { AreRows rows.old entries.old }
     ensures systems { systems_of rows.new ≡ systems_of rows.old }
     ensures ready { AreRows rows.new entries.new }
-    ensures follows { Follows (systems_of rows.old) entries.old entries.new result }
+    ensures follows { Follows (IsMonomial (systems_of rows.old)) (map pos entries.old) (map pos entries.new) result }
 {
     for place in (0..entries.len()).rev() {
         let passed = clear(rows, entries, place);

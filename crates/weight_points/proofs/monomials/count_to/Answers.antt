@@ -1,4 +1,4 @@
-use Rattle.std.proofs.Common.{◌≡◌, ◌∙◌, ℕ, ◌+◌, List, ap, arith}
+use Rattle.std.proofs.Common.{◌≡◌, ◌∙◌, ℕ, ◌+◌, List, ap, arith, map, pos}
 use Rattle.lattice_core.specs.Weights.{weighted_all}
 use Rattle.weight_points.proofs.Walks.{begins, more_given, counted_all, counted_more}
 use Rattle.weight_points.specs.Listing.{given_of}
@@ -26,7 +26,7 @@ loop-count-preserved c =
     record {
       systems = c.step.ensures.systems ∙ i.systems;
       ready = c.step.ensures.ready;
-      given = ap (λ (s : List Weighted). given_of s new false) c.step.ensures.systems ∙ (one ∙ ap (λ (n : ℕ). n + 1) i.given);
+      given = ap (λ (s : List Weighted). given_of s (map pos new) false) c.step.ensures.systems ∙ (one ∙ ap (λ (n : ℕ). n + 1) i.given);
     }
 
 pub returns : goal.returns

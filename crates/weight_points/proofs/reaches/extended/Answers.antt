@@ -1,6 +1,6 @@
 use Rattle.std.proofs.Common.{◌≡◌, ◌↔◌, ℕ, ◌+◌, ◌<◌, Bool, true, false, List, [], ◌∷◌, length, get_or, sym, ap, subst, arith}
 use Rattle.std.proofs.lemmas.List.{length-append}
-use Rattle.weight_points.specs.Reaches.{CanTake}
+use Rattle.weight_points.specs.steps.Reaches.{CanTake}
 use Rattle.weight_points.proofs.Reaching.{taken, grown}
 use Rattle.weight_points.proofs.reaches.extended.Goals as goal
 

@@ -1,5 +1,5 @@
 use Rattle.std.proofs.Common.{◌≡◌, ◌↔◌, ℕ, ◌<◌, true, false, List, ◌∷◌, length, get_or}
-use Rattle.weight_points.specs.Reaches.{CanTake, IsReach}
+use Rattle.weight_points.specs.steps.Reaches.{CanTake, IsReach}
 use Rattle.weight_points.proofs.reaches.extended.Given as goal
 
 abbrev pub invariant-loop-number : goal.invariant-loop-number

@@ -1,5 +1,5 @@
 use Rattle.std.proofs.Common.{◌≡◌, ◌↔◌, ℕ, ◌<◌, true, false, [], length, get_or}
-use Rattle.weight_points.specs.Reaches.{CanTake}
+use Rattle.weight_points.specs.steps.Reaches.{CanTake}
 use Rattle.weight_points.proofs.reaches.reach_of_none.Given as goal
 
 abbrev pub invariant-loop-number : goal.invariant-loop-number

@@ -1,5 +1,5 @@
 use Rattle.std.proofs.Common.{◌≡◌, ℕ, ◌+◌, ◌-◌, ◌<◌, [], length, map, drop, get_or}
-use Rattle.weight_points.specs.Reaches.{IsReach}
+use Rattle.weight_points.specs.steps.Reaches.{IsReach}
 use Rattle.weight_points.proofs.reaches.reaches_of.Given as goal
 
 abbrev pub invariant-loop-i : goal.invariant-loop-i

@@ -1,5 +1,5 @@
 use Rattle.std.proofs.Common.{◌≡◌, ◌++◌, take, drop, map}
-use Rattle.weight_points.specs.Rows.{returning}
+use Rattle.weight_points.specs.steps.Rows.{returning}
 use Rattle.weight_points.proofs.rows.give_back.Given as goal
 
 abbrev pub invariant-loop-row : goal.invariant-loop-row

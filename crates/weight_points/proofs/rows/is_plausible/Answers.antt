@@ -2,7 +2,7 @@ use Rattle.std.proofs.Common.{refl, subst}
 use Rattle.std.specs.List.{All}
 use Rattle.std.proofs.lemmas.List.{take_all}
 use Rattle.std.proofs.lemmas.List.Elements.{All-more}
-use Rattle.weight_points.specs.Rows.{IsPlausible}
+use Rattle.weight_points.specs.steps.Rows.{IsPlausible}
 use Rattle.weight_points.proofs.rows.is_plausible.Goals as goal
 
 pub loop-row-preserved : goal.loop-row-preserved

@@ -2,7 +2,7 @@ use Rattle.std.proofs.Common.{subst, take, arith}
 use Rattle.std.specs.List.{All}
 use Rattle.std.proofs.lemmas.List.{take_all}
 use Rattle.std.proofs.lemmas.List.Elements.{All-more, All-weaker}
-use Rattle.weight_points.specs.Rows.{IsAffordable}
+use Rattle.weight_points.specs.steps.Rows.{IsAffordable}
 use Rattle.weight_points.proofs.Weighing.{affordable_less}
 use Rattle.weight_points.proofs.rows.last_value.Goals as goal
 

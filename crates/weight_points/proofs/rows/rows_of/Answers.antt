@@ -4,14 +4,15 @@ use Rattle.std.proofs.lemmas.List.{map-append, map_more}
 use Rattle.std.proofs.lemmas.List.Elements.{All-push}
 use Rattle.lattice_core.specs.Weights.{Weighted, weighted, weighted_all}
 use Rattle.lattice_core.specs.declared.weights.WeightSystem.{WeightSystem}
+use Rattle.lattice_core.specs.declared.limits.TheConstants.{MOST_DEGREE}
 use Rattle.weight_points.specs.declared.rows.Row.{Row}
-use Rattle.weight_points.specs.Rows.{system_of, systems_of, IsFresh}
+use Rattle.weight_points.specs.steps.Rows.{system_of, systems_of, IsFresh}
 use Rattle.weight_points.proofs.Weighing.{all_unmap}
 use Rattle.weight_points.proofs.rows.rows_of.Goals as goal
 
 pub row_of-requires : goal.row_of-requires
 row_of-requires c =
-    let small = all_unmap (λ (s : Weighted). s.degree ≤ 32_767) weighted c.args.systems.now c.requires in
+    let small = all_unmap (λ (s : Weighted). s.degree ≤ MOST_DEGREE) weighted c.args.systems.now c.requires in
     rw c.system-item.is (small c.loop-system.system-index c.system-item.result c.loop-system-test.true)
 
 pub loop-system-preserved : goal.loop-system-preserved

@@ -1,7 +1,7 @@
 use Rattle.std.proofs.Common.{◌≡◌, take}
 use Rattle.std.specs.List.{All}
 use Rattle.lattice_core.specs.Weights.{weighted_all}
-use Rattle.weight_points.specs.Rows.{systems_of, IsFresh}
+use Rattle.weight_points.specs.steps.Rows.{systems_of, IsFresh}
 use Rattle.weight_points.proofs.rows.rows_of.Given as goal
 
 abbrev pub invariant-loop-system : goal.invariant-loop-system

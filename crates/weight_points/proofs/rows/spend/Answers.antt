@@ -2,7 +2,7 @@ use Rattle.std.proofs.Common.{◌≡◌, ◌∙◌, ◌<◌, List, length, get_o
 use Rattle.std.proofs.lemmas.List.{get_or_default}
 use Rattle.std.proofs.lemmas.List.Edits.{map_over_more}
 use Rattle.weight_points.specs.declared.rows.Row.{Row}
-use Rattle.weight_points.specs.Rows.{HasPlace, weight_at, spending}
+use Rattle.weight_points.specs.steps.Rows.{HasPlace, weight_at, spending}
 use Rattle.weight_points.proofs.Writing.{unreached}
 use Rattle.weight_points.proofs.rows.spend.Goals as goal
 

@@ -1,5 +1,5 @@
 use Rattle.std.proofs.Common.{◌≡◌, ◌++◌, take, drop, map}
-use Rattle.weight_points.specs.Rows.{spending}
+use Rattle.weight_points.specs.steps.Rows.{spending}
 use Rattle.weight_points.proofs.rows.spend.Given as goal
 
 abbrev pub invariant-loop-row : goal.invariant-loop-row

@@ -4,8 +4,8 @@ use Rattle.std.specs.Prelude.{true, false}
 use Rattle.std.proofs.lemmas.List.Elements.{All-weaker}
 use Rattle.std.proofs.Math.ListN.{set, length-set}
 use Rattle.weight_points.specs.declared.rows.Row.{Row}
-use Rattle.weight_points.specs.Rows.{systems_of, IsAffordable, IsPlausible, spending}
-use Rattle.weight_points.specs.Search.{exponent, Completes}
+use Rattle.weight_points.specs.steps.Rows.{systems_of, IsAffordable, IsPlausible, spending}
+use Rattle.weight_points.specs.steps.Search.{exponent, Completes}
 use Rattle.weight_points.proofs.Weighing.{systems_spending, affordable_less}
 use Rattle.weight_points.proofs.Completing.{plausible_completion, completion_small, found_last, found_deeper, passed_deeper, passed_implausible, rows_restored, entries_restored}
 use Rattle.weight_points.proofs.search.+complete.Goals as goal

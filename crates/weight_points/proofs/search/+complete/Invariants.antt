@@ -1,6 +1,6 @@
 use Rattle.std.proofs.Common.{◌≡◌, ℕ, ◌-◌, ◌≤◌, List, length}
-use Rattle.weight_points.specs.Rows.{systems_of}
-use Rattle.weight_points.specs.Search.{exponent, IsCompletion}
+use Rattle.weight_points.specs.steps.Rows.{systems_of}
+use Rattle.weight_points.specs.steps.Search.{exponent, IsCompletion}
 use Rattle.weight_points.proofs.search.+complete.Given as goal
 
 abbrev pub decreases-complete : goal.decreases-complete

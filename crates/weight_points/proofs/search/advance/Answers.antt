@@ -1,10 +1,10 @@
 use Rattle.std.proofs.Common.{◌≡◌, ◌∙◌, ℕ, ◌<◌, ◌-◌, ◌+◌, ap, refl, arith, length}
 use Rattle.std.specs.Prelude.{true, false}
 use Rattle.std.proofs.lemmas.List.{get_or_past}
-use Rattle.weight_points.specs.Rows.{systems_of}
-use Rattle.weight_points.specs.Search.{exponent, Completes}
+use Rattle.weight_points.specs.steps.Rows.{systems_of}
+use Rattle.weight_points.specs.steps.Search.{exponent, Completes}
 use Rattle.weight_points.proofs.Weighing.{systems_returning}
-use Rattle.weight_points.proofs.Advancing.{none_at_end, agrees_before, found_next, none_before, zeros_from}
+use Rattle.weight_points.proofs.Advancing.{none_at_end, none_follows, agrees_before, found_next, none_before, zeros_from}
 use Rattle.weight_points.proofs.search.advance.Goals as goal
 
 pub loop-place-init : goal.loop-place-init
@@ -59,3 +59,7 @@ loop-place-preserved c =
       agrees = rw kept (agrees_before systems old entries a m place from next c.requires.columns within i.agrees c.clear-passed.ensures.entries from_is i.none);
       none = none_before systems old entries a m place from next c.requires.columns within i.agrees c.clear-passed.ensures.entries from_is i.none found.1;
     }
+
+pub returns-clause-follows : goal.returns-clause-follows
+returns-clause-follows c =
+    none_follows (systems_of c.args.rows.now) c.args.entries.now (λ b solves h. c.loop-place.invariant.none b solves (λ i l. absurd (omega arith)) h)

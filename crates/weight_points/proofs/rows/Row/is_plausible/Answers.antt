@@ -1,8 +1,8 @@
 use Rattle.std.proofs.Common.{◌≡◌, ◌∙◌, ℕ, suc, ◌+◌, ◌-◌, ◌*◌, ◌<◌, ◌≤◌, Bool, false, [], length, drop, get_or, sym, ap, arith, Vec, Global}
 use Rattle.std.proofs.Math.ListN.{get_or-map}
 use Rattle.std.proofs.lemmas.List.{get_or_default, length-map}
-use Rattle.weight_points.specs.Reaches.{IsReach}
-use Rattle.weight_points.specs.Rows.{weight_at, tables_of}
+use Rattle.weight_points.specs.steps.Reaches.{IsReach}
+use Rattle.weight_points.specs.steps.Rows.{weight_at, tables_of}
 use Rattle.weight_points.proofs.rows.Row.is_plausible.Goals as goal
 
 pub index-requires-2 : goal.index-requires-2

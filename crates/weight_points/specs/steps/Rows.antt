@@ -2,8 +2,9 @@
 use Rattle.std.specs.Prelude.{◌≡◌, ℕ, suc, ◌+◌, ◌-◌, ◌*◌, ◌<◌, ◌≤◌, Bool, List, length, map, drop, slice_index_or}
 use Rattle.std.specs.List.{All}
 use Rattle.lattice_core.specs.Weights.{Weighted, weighted, columns_of, AreWellFormed}
+use Rattle.lattice_core.specs.declared.limits.TheConstants.{MOST_DEGREE}
 use Rattle.weight_points.specs.declared.rows.Row.{Row}
-use Rattle.weight_points.specs.Reaches.{spent, AreReaches}
+use Rattle.weight_points.specs.steps.Reaches.{spent, AreReaches}
 
 -- the weight system of a row, and the systems of rows, as contracts see them
 abbrev pub system_of : Row → Weighted
@@ -25,7 +26,7 @@ pub record HasPlace (place : ℕ) (row : Row) : Type 0 where
   pub weight : place < length row.system.weights.items
   pub reaches : AreReaches row.system.weights.items row.system.degree (tables_of row)
   pub within : row.left ≤ row.system.degree
-  pub small : row.left ≤ 32_767
+  pub small : row.left ≤ MOST_DEGREE
 
 -- so many times the weight at the place is left
 abbrev pub IsAffordable : ℕ → ℕ → Row → Type 0
@@ -45,13 +46,13 @@ returning place value row = record row { left = row.left + value * weight_at row
 
 -- so many times the weight at the place can be given back
 abbrev pub IsReturnable : ℕ → ℕ → Row → Type 0
-IsReturnable place value row = row.left + value * weight_at row place ≤ 32_767
+IsReturnable place value row = row.left + value * weight_at row place ≤ MOST_DEGREE
 
 -- the row beside exponents: what they take and what is left are the degree
 pub record IsRow (a : List ℕ) (row : Row) : Type 0 where
   pub columns : length row.system.weights.items ≡ length a
   pub spent_is : spent row.system.weights.items a + row.left ≡ row.system.degree
-  pub small : row.system.degree ≤ 32_767
+  pub small : row.system.degree ≤ MOST_DEGREE
   pub reaches : AreReaches row.system.weights.items row.system.degree (tables_of row)
 
 -- the rows of well formed systems beside exponents
