@@ -11,15 +11,11 @@ use Rattle.lattice_core.specs.Weights.{Weighted, weighted_degree, columns_of, to
 use Rattle.lattice_core.specs.Weights.{IsInLattice, IsMonomial, IsSummed, AreWellFormed, AreWithinLimits}
 use Rattle.lattice_core.specs.declared.faults.Refusal.TheVariants.{Limit}
 use Rattle.lattice_core.specs.declared.faults.LimitName.TheVariants.{Monomials, Size}
-use Rattle.lattice_theory.proofs.Members.{Each, empty, more, each_head, each_tail, each_in, each_push, each_from_in}
+use Rattle.lattice_theory.proofs.Members.{Each, empty, more, each_head, each_tail, each_in, each_map, each_weaker, each_push, each_from_in}
 use Rattle.lattice_theory.proofs.Members.{each_from_all, all_from_each, In, here, there, in_push, in_append_left, in_from_contains, contains_from_in}
-use Rattle.weight_points.specs.Listing.{solutions}
 use Rattle.weight_points.specs.Members.{Walked, AreMonomials, IsMonomialAt, HasMonomials, AreFirst}
-use Rattle.weight_points.specs.steps.Search.{exponent}
 use Rattle.weight_points.proofs.Collecting.{none_are_first, first_and_next, first_are_all}
-use Rattle.weight_points.proofs.Integral.{integral, are_monomials, solution_from_monomial}
-use Rattle.lattice_theory.proofs.Sublists.{from_map}
-use Rattle.weight_points.proofs.Weighing.{solution_small}
+use Rattle.weight_points.proofs.Entries.{exponents_small}
 use Rattle.weight_frame.specs.Answers.{IsFrameWithinLimit, IsFrameFault, IsHandedOut, HasCoordinates, HasLargeCoordinate}
 use Rattle.weight_frame.specs.Frame.{AreCoordinates, largest, coordinate_limit}
 use Rattle.weight_frame.proofs.Frames.{frame_coordinates}
@@ -70,28 +66,14 @@ point_inside systems a formed m = record {
         (shifted_degree s.weights a (summed.columns ∙ sym m.columns)) degree summed.sum
 
 -- the entries of an exponent vector's point are small
-small_entries : (b : List ℕ) → ((i : ℕ) → i < length b → exponent b i ≤ 32_767) → Each (λ e. nat_abs e ≤ 32_768) (monomial_point (map pos b))
-small_entries [] h = empty
-small_entries (n ∷ b) h = more (less n (h 0 (omega arith))) (small_entries b (λ i k. h (suc i) (omega arith)))
-  where
-    less : (n : ℕ) → n ≤ 32_767 → nat_abs (pos n -ℤ pos 1) ≤ 32_768
-    less n h = omega (arith, ints)
-
-natural : (systems : List Weighted) (a : List ℤ) → AreWellFormed systems → AreWithinLimits systems → IsMonomial systems a
-    → (b : List ℕ) × (map pos b ≡ a)
-unfolding integral
-natural systems a formed limits m =
-    let listed : Contains (map (λ b. map pos b) (solutions systems)) a = ((are_monomials systems formed limits.degrees).members a).1 m in
-    let image = from_map (λ (b : List ℕ). map pos b) (solutions systems) (in_from_contains _ listed) in
-    (image.source, sym image.is)
-
 pub point_small : (systems : List Weighted) (a : List ℤ) → AreWellFormed systems → AreWithinLimits systems → IsMonomial systems a
     → All (λ e. nat_abs e ≤ 32_768) (monomial_point a)
 point_small systems a formed limits m =
-    let n = natural systems a formed limits m in
-    let solves = solution_from_monomial systems n.0 (subst (IsMonomial systems) (sym n.1) m) in
-    subst (λ x. All (λ e. nat_abs e ≤ 32_768) (monomial_point x)) n.1
-    (all_from_each {P = λ e. nat_abs e ≤ 32_768} (small_entries n.0 (solution_small systems n.0 formed limits.degrees solves)))
+    all_from_each (each_map (λ e. nat_abs e ≤ 32_768) (λ (e : ℤ). e -ℤ pos 1)
+    (each_weaker less (each_from_all (λ e. (pos 0 ≤ℤ e) × (e ≤ℤ pos 32_767)) a (exponents_small systems a formed limits m))))
+  where
+    less : (e : ℤ) → (pos 0 ≤ℤ e) × (e ≤ℤ pos 32_767) → nat_abs (e -ℤ pos 1) ≤ 32_768
+    less e h = omega (arith, ints, h.0, h.1)
 
 -- (1, .., 1) is an exponent vector
 ones_degree : (weights : List ℕ) → dot (map pos weights) (replicate (length weights) (pos 1)) ≡ pos (total weights)

@@ -9,10 +9,10 @@ ghost use Rattle.palp_engine.specs.WeightLines.{first_large_degree, numbers_refu
 ghost use Rattle.palp_engine.specs.Stops.{IsFrameStop, StopsWeights};
 ghost use Rattle.weight_frame.specs.Answers.{IsHandedOut};
 
-use lattice_core::{Fault, LimitName, Point, Refusal, WeightSystem};
+use lattice_core::{Fault, LimitName, MOST_DEGREE, Point, Refusal, WeightSystem};
 use std::alloc::Global;
 use weight_frame::{Coordinates, Frame, FrameFault, frame_of};
-use weight_points::{MOST_DEGREE, Monomials};
+use weight_points::Monomials;
 
 /// The most systems of a weight line that isn't refused.
 const MOST_SYSTEMS: usize = 6;
