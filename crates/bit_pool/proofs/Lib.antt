@@ -1,0 +1,6 @@
+pub mod Rows
+pub mod Sets
+pub mod Counts
+pub mod Meets
+pub mod Named
+pub mod RowTests
