@@ -9,5 +9,6 @@ pub mod SingleReports
 pub mod LineNumbers
 pub mod WeightWalks
 pub mod TextReadings
+pub mod ItemSteps
 pub mod ReportSteps
 pub mod RunMeanings

@@ -1,127 +1,94 @@
 -- Reporting items one after another.
-use Rattle.std.proofs.Common.{◌≡◌, ℕ, ◌+◌, ◌<◌, ◌≤◌, inl, inr, List, [], ◌∷◌, ◌++◌, map, length, drop, Option, Err, refl, sym, ap, subst, ◌∙◌, arith, append_assoc}
+use Rattle.std.proofs.Common.{◌≡◌, ℕ, ◌+◌, ◌<◌, ◌≤◌, List, [], ◌∷◌, ◌++◌, map, length, take, drop, Option, None, Ok, Err, refl, sym, ap, subst, ◌∙◌, arith}
 use Rattle.std.specs.Prelude.{get_or}
-use Rattle.std.proofs.lemmas.List.{append-nil, drop_all, drop_more, drop-map}
-use Rattle.palp_io.specs.Sink.{Gains}
-use Rattle.palp_io.proofs.SinkLemmas.{Gains-none, Gains-trans}
+use Rattle.std.proofs.lemmas.List.{take_more, take_all, take-append-drop, drop_more, length-take-le, length-map, map-append}
+use Rattle.lattice_core.specs.declared.faults.Refusal.{Refusal}
+use Rattle.palp_io.specs.Sink.{SinkState}
 use Rattle.palp_io.proofs.FaultLemmas.{Rose-late}
+use Rattle.report_theory.specs.Report.{Whole, nothing, Stop, stop_at}
+use Rattle.report_theory.specs.Giving.{GivesReport, GivesFront}
+use Rattle.report_theory.proofs.Givings.{ReportedSoFar, gives_nothing, reported_nothing, reported_item, reported_end, reported_part, reported_all}
+use Rattle.palp_words.specs.declared.job.Job.{Job}
 use Rattle.palp_input.specs.Grammar.{Listed, listed, TextEnd, End, FaultEnd, TooLongEnd}
 use Rattle.palp_input.specs.declared.item.Item.{Item}
-use Rattle.palp_engine.specs.Texts.{outcome_of, IsReport, IsFront}
-use Rattle.palp_engine.specs.Sessions.{Output, GivesPiece, ItemMeans, GivesReport, GivesFront, ReportMeans, IsStopped}
+use Rattle.palp_engine.specs.Commands.{Says}
+use Rattle.palp_engine.specs.Texts.{outcome_of}
+use Rattle.palp_engine.specs.Sessions.{ItemMeans}
+use Rattle.palp_engine.specs.RunSteps.{ReportMeans, IsStopped}
 use Rattle.palp_engine.specs.declared.outcome.Outcome.{Outcome}
 use Rattle.palp_engine.specs.declared.outcome.Outcome.TheVariants.{Refused}
 use Rattle.palp_engine.specs.declared.session.ItemFault.{ItemFault}
 use Rattle.palp_engine.specs.declared.session.ItemFault.TheVariants as faults
 
--- the report of the first items was given: what follows it is the report of the items behind them, or a front of it
-pub record ReportedSoFar (items : List Listed) (place : ℕ) (given_before : Option (List ℕ)) (faults_before : ℕ)
-    (given : Option (List ℕ)) (faults_now : ℕ) : Type 0 where
-  pub report : List ℕ
-  pub gained : Gains given_before given report
-  pub later : faults_before ≤ faults_now
-  pub goes_on : (ending : TextEnd) (behind : List ℕ) (outcome : Outcome) → IsReport (place + 1) (drop place items) ending behind outcome
-      → IsReport 1 items ending (report ++ behind) outcome
-  pub front_on : (behind : List ℕ) → IsFront (drop place items) behind → IsFront items (report ++ behind)
+-- the items before a place, none of which is refused, were reported
+abbrev pub Reported : Job → List Item → ℕ → SinkState → SinkState → Type 0
+Reported job items place first now = ReportedSoFar (Says job) (map listed (take place items)) None first now
 
-at_least : (n : ℕ) → n ≤ n
-at_least n = omega arith
-
--- nothing is a front of any report
-pub front_nothing : (items : List Listed) → IsFront items []
-front_nothing [] = refl
-front_nothing (item ∷ items) = inl refl
-
--- no item was reported
-pub reported_nothing : (items : List Listed) (given : Option (List ℕ)) (faults : ℕ) → ReportedSoFar items 0 given faults given faults
-reported_nothing items given faults = record {
-  report = [];
-  gained = Gains-none given;
-  later = at_least faults;
-  goes_on = λ ending behind outcome h. h;
-  front_on = λ behind h. h;
-}
-
--- the item at a place stands in front of those behind it
-pub listed_at : (items : List Item) (place : ℕ) (item : Item) → place < length items → item ≡ get_or items place item
-    → drop place (map listed items) ≡ listed item ∷ drop (place + 1) (map listed items)
+-- the items before a place, the item at it, and those behind it
+listed_at : (items : List Item) (place : ℕ) (item : Item) → place < length items → item ≡ get_or items place item
+    → map listed items ≡ map listed (take place items) ++ listed item ∷ map listed (drop (place + 1) items)
 listed_at items place item lt e =
-    drop-map listed place items ∙ ap (map listed) (drop_more items place item lt)
-    ∙ ap (λ (i : Item). listed i ∷ map listed (drop (place + 1) items)) (sym e)
-    ∙ ap (λ (xs : List Listed). listed item ∷ xs) (sym (drop-map listed (place + 1) items))
+    ap (map listed) (sym (take-append-drop place items) ∙ ap (λ (xs : List Item). take place items ++ xs)
+    (drop_more items place item lt ∙ ap (λ (i : Item). i ∷ drop (place + 1) items) (sym e)))
+    ∙ map-append listed (take place items) (item ∷ drop (place + 1) items)
 
-pub nothing_behind : (items : List Item) (place : ℕ) → length items ≤ place → drop place (map listed items) ≡ []
-nothing_behind items place le = drop-map listed place items ∙ ap (map listed) (drop_all place items le)
+listed_more : (items : List Item) (place : ℕ) (item : Item) → place < length items → item ≡ get_or items place item
+    → map listed (take (place + 1) items) ≡ map listed (take place items) ++ listed item ∷ []
+listed_more items place item lt e =
+    ap (map listed) (take_more items place item lt ∙ ap (λ (i : Item). take place items ++ i ∷ []) (sym e))
+    ∙ map-append listed (take place items) (item ∷ [])
+
+number_at : (items : List Item) (place : ℕ) → place < length items → length (map listed (take place items)) ≡ place
+number_at items place lt =
+    let le : place ≤ length items = omega (arith, lt) in
+    length-map (take place items) listed ∙ length-take-le place items le
 
 -- what the outcome of the whole means
-report_ends : (items : List Listed) (ending : TextEnd) (out : Output) → GivesReport items ending out (outcome_of ending)
-    → ReportMeans items ending out (outcome_of ending)
-report_ends items End out g = g
-report_ends items (FaultEnd fault) out g = g
-report_ends items TooLongEnd out g = g
+report_ends : (job : Job) (items : List Listed) (ending : TextEnd) (out out_now : SinkState) → GivesReport (Says job) items None out out_now
+    → ReportMeans job items ending out out_now (outcome_of ending)
+report_ends job items End out out_now g = record { stop = None; gives = g; outcome_is = refl }
+report_ends job items (FaultEnd fault) out out_now g = record { stop = None; gives = g; outcome_is = refl }
+report_ends job items TooLongEnd out out_now g = record { stop = None; gives = g; outcome_is = refl }
 
-module _ (items : List Listed) (place : ℕ) (given_before : Option (List ℕ)) (faults_before : ℕ) (given : Option (List ℕ)) (faults_mid : ℕ)
-    (so_far : ReportedSoFar items place given_before faults_before given faults_mid) where
+pub reported_none : (job : Job) (items : List Item) (out : SinkState) → GivesFront (Says job) (map listed items) out out
+reported_none job items out = record { front = []; is_front = nothing; gives = gives_nothing out }
+
+pub reported_first : (job : Job) (items : List Item) (out : SinkState) → Reported job items 0 out out
+reported_first job items out = reported_nothing (Says job) out
+
+module _ (job : Job) (items : List Item) (place : ℕ) (first mid : SinkState) (so_far : Reported job items place first mid) where
   -- all items were reported
-  pub reported_all : (ending : TextEnd) → drop place items ≡ []
-      → ReportMeans items ending (record { given_before = given_before; faults_before = faults_before; given_now = given; faults_now = faults_mid }) (outcome_of ending)
-  reported_all ending none = report_ends items ending _ (record {
-    report = so_far.report;
-    is_report = subst (λ (xs : List ℕ). IsReport 1 items ending xs (outcome_of ending)) (append-nil so_far.report)
-        (so_far.goes_on ending [] (outcome_of ending)
-        (subst (λ (xs : List Listed). IsReport (place + 1) xs ending [] (outcome_of ending)) (sym none) (refl, refl)));
-    appended = so_far.gained;
-  })
+  pub reported_whole : (ending : TextEnd) → length items ≤ place → ReportMeans job (map listed items) ending first mid (outcome_of ending)
+  reported_whole ending le = report_ends job (map listed items) ending first mid
+      (subst (λ (xs : List Item). GivesReport (Says job) (map listed xs) None first mid) (take_all place items le)
+      (reported_all (Says job) first mid (map listed (take place items)) None so_far))
 
-  module _ (item : Listed) (behind_is : drop place items ≡ item ∷ drop (place + 1) items) (given_now : Option (List ℕ)) (faults_now : ℕ) where
+  module _ (item : Item) (lt : place < length items) (e : item ≡ get_or items place item) (last : SinkState) where
     -- one more item
-    pub reported_item : GivesPiece item (record { given_before = given; faults_before = faults_mid; given_now = given_now; faults_now = faults_now })
-        → ReportedSoFar items (place + 1) given_before faults_before given_now faults_now
-    reported_item g = record {
-      report = so_far.report ++ g.piece;
-      gained = Gains-trans given_before given given_now so_far.report g.piece so_far.gained g.appended;
-      later = omega (arith, so_far.later, g.later);
-      goes_on = λ ending behind outcome h. subst (λ (xs : List ℕ). IsReport 1 items ending xs outcome) (sym (append_assoc so_far.report g.piece behind))
-          (so_far.goes_on ending (g.piece ++ behind) outcome
-          (subst (λ (xs : List Listed). IsReport (place + 1) xs ending (g.piece ++ behind) outcome) (sym behind_is)
-          (inr (g.piece, behind, g.is_piece, refl, h))));
-      front_on = λ behind h. subst (IsFront items) (sym (append_assoc so_far.report g.piece behind))
-          (so_far.front_on (g.piece ++ behind)
-          (subst (λ (xs : List Listed). IsFront xs (g.piece ++ behind)) (sym behind_is) (inr (g.piece, g.is_piece, inr (behind, refl, h)))));
-    }
+    pub reported_next : ItemMeans (Ok tt) job (listed item) mid last → Reported job items (place + 1) first last
+    reported_next g =
+        subst (λ (xs : List Listed). ReportedSoFar (Says job) xs None first last) (sym (listed_more items place item lt e))
+        (reported_item (Says job) first mid (map listed (take place items)) None so_far (listed item) last Whole tt g)
 
-    -- the front of an item's report
-    front_given : (behind : List ℕ) → IsFront (item ∷ drop (place + 1) items) behind → Gains given given_now behind
-        → GivesFront items (record { given_before = given_before; faults_before = faults_before; given_now = given_now; faults_now = faults_now })
-    front_given behind f g = record {
-      front = so_far.report ++ behind;
-      is_front = so_far.front_on behind (subst (λ (xs : List Listed). IsFront xs behind) (sym behind_is) f);
-      appended = Gains-trans given_before given given_now so_far.report behind so_far.gained g;
-    }
+    part : GivesFront (Says job) (listed item ∷ []) mid last → GivesFront (Says job) (map listed items) first last
+    part g =
+        subst (λ (xs : List Listed). GivesFront (Says job) xs first last) (sym (listed_at items place item lt e))
+        (reported_part (Says job) first mid (map listed (take place items)) None so_far (listed item) last (map listed (drop (place + 1) items)) g)
 
     -- an item whose report isn't given whole is the last one
     pub reported_fault : (ending : TextEnd) (fault : ItemFault) (outcome : Outcome) → IsStopped (place + 1) fault outcome
-        → ItemMeans (Err fault) item (record { given_before = given; faults_before = faults_mid; given_now = given_now; faults_now = faults_now })
-        → ReportMeans items ending (record { given_before = given_before; faults_before = faults_before; given_now = given_now; faults_now = faults_now }) outcome
+        → ItemMeans (Err fault) job (listed item) mid last → ReportMeans job (map listed items) ending first last outcome
     reported_fault ending (faults.Refused cause) outcome s m =
-        subst (ReportMeans items ending (record { given_before = given_before; faults_before = faults_before; given_now = given_now; faults_now = faults_now })) (sym s) (record {
-          report = so_far.report ++ [];
-          is_report = so_far.goes_on ending [] (Refused (place + 1) cause)
-              (subst (λ (xs : List Listed). IsReport (place + 1) xs ending [] (Refused (place + 1) cause)) (sym behind_is)
-              (inl (record { cause = cause; refused = m.0; nothing = refl; outcome_is = refl })));
-          appended = Gains-trans given_before given given_now so_far.report [] so_far.gained m.1.appended;
+        let stop : Option (Stop Refusal) = stop_at (length (map listed (take place items)) + 1) cause in
+        subst (λ (o : Outcome). ReportMeans job (map listed items) ending first last o) (sym s) (record {
+          stop = stop;
+          gives = subst (λ (xs : List Listed). GivesReport (Says job) xs stop first last) (sym (listed_at items place item lt e))
+              (reported_end (Says job) first mid (map listed (take place items)) None so_far (listed item) last
+              (map listed (drop (place + 1) items)) cause m);
+          outcome_is = ap (λ (n : ℕ). Refused (n + 1) cause) (sym (number_at items place lt));
         })
     reported_fault ending faults.Write outcome s m =
-        subst (ReportMeans items ending (record { given_before = given_before; faults_before = faults_before; given_now = given_now; faults_now = faults_now })) (sym s) (
-          Rose-late faults_before faults_mid faults_now so_far.later m.rose,
-          front_given m.appended.front
-              (inr (m.piece, m.is_piece, inl (m.appended.is_front.rest, m.appended.is_front.whole_is))) m.appended.gained,
-        )
+        subst (λ (o : Outcome). ReportMeans job (map listed items) ending first last o) (sym s)
+        (Rose-late first.faults mid.faults last.faults so_far.gives.later m.0, part m.1)
     reported_fault ending faults.NoMemory outcome s m =
-        subst (ReportMeans items ending (record { given_before = given_before; faults_before = faults_before; given_now = given_now; faults_now = faults_now })) (sym s)
-        (front_given [] (front_nothing (item ∷ drop (place + 1) items)) m.appended)
-
--- nothing was given
-pub reported_none : (items : List Listed) (given : Option (List ℕ)) (faults_before faults_now : ℕ)
-    → GivesFront items (record { given_before = given; faults_before = faults_before; given_now = given; faults_now = faults_now })
-reported_none items given faults_before faults_now = record { front = []; is_front = front_nothing items; appended = Gains-none given }
+        subst (λ (o : Outcome). ReportMeans job (map listed items) ending first last o) (sym s) (part m)

@@ -1,9 +1,13 @@
--- The job that is built. This project's own.
+-- The jobs that are built, and what they say of an item. This project's own.
 use Rattle.std.specs.Prelude.{◌≡◌, ℕ, List, true, false, Ok}
+use Rattle.lattice_core.specs.declared.faults.Refusal.{Refusal}
+use Rattle.report_theory.specs.Report.{Whole, Ends, Step, Piece, Close}
 use Rattle.palp_words.specs.Words.{words_of}
 use Rattle.palp_words.specs.declared.job.Job.{Job}
-use Rattle.palp_words.specs.declared.job.Job.TheVariants.{Poly}
+use Rattle.palp_words.specs.declared.job.Job.TheVariants.{Poly, Nef, Cws, Sweep}
 use Rattle.palp_words.specs.declared.job.PolyFlags.{PolyFlags}
+use Rattle.palp_input.specs.Grammar.{Listed}
+use Rattle.palp_engine.specs.Items.{IsItemRefused, IsPiece}
 
 -- `poly` with the general line in its form without a dual, and nothing else
 abbrev pub plain_flags : PolyFlags
@@ -24,12 +28,27 @@ plain_flags = record {
 abbrev pub IsBuilt : Job → Type 0
 IsBuilt job = job ≡ Poly plain_flags
 
--- the words give the job that is built
-abbrev pub AreBuilt : List (List ℕ) → Type 0
-AreBuilt words = words_of words ≡ Ok (Poly plain_flags)
+-- the words give a job that is built
+pub record AreBuilt (words : List (List ℕ)) : Type 0 where
+  pub job : Job
+  pub gives : words_of words ≡ Ok job
+  pub built : IsBuilt job
 
 -- the words give a job, which isn't built
 pub record AreUnbuilt (words : List (List ℕ)) : Type 0 where
   pub job : Job
   pub gives : words_of words ≡ Ok job
   pub other : IsBuilt job → ⊥
+
+-- `poly -n` says of an item its one piece and then no more, or its refusal
+pub data PlainSays (item : Listed) : ℕ → Step Refusal → Type 0 where
+  line : {bytes : List ℕ} → IsPiece item bytes → PlainSays item 0 (Piece bytes)
+  whole : PlainSays item 1 (Close Whole)
+  refused : {cause : Refusal} → IsItemRefused item cause → PlainSays item 0 (Close (Ends cause))
+
+-- What a job says of an item: what comes next after so many of its pieces. A job that isn't built says nothing.
+abbrev pub Says : Job → Listed → ℕ → Step Refusal → Type 0
+Says (Poly flags) item k step = (flags ≡ plain_flags) × PlainSays item k step
+Says (Nef words) item k step = ⊥
+Says (Cws words) item k step = ⊥
+Says (Sweep words) item k step = ⊥

@@ -1,11 +1,16 @@
 -- What is said of points, of items and of texts is said once: the laws of this crate, as statements. This project's
 -- own.
-use Rattle.std.specs.Prelude.{◌≡◌, ℕ, ◌<◌, List, ◌++◌, ℤ, length}
+use Rattle.std.specs.Prelude.{◌≡◌, ℕ, ◌<◌, List, [], ℤ, length}
+use Rattle.std.specs.List.{concat}
 use Rattle.lattice_core.specs.declared.faults.Refusal.{Refusal}
+use Rattle.palp_io.specs.Sink.{IsPrefix}
+use Rattle.report_theory.specs.Report.{Closing, ArePieces}
+use Rattle.palp_words.specs.declared.job.Job.{Job}
 use Rattle.palp_input.specs.Grammar.{Listed}
 use Rattle.palp_engine.specs.Reports.{IsBodyLine, IsRefused}
 use Rattle.palp_engine.specs.Items.{IsItemRefused, IsPiece}
-use Rattle.palp_engine.specs.Texts.{IsReportOf, IsFrontOf}
+use Rattle.palp_engine.specs.Commands.{Says}
+use Rattle.palp_engine.specs.Texts.{HaveReport, IsReport, IsFront}
 use Rattle.palp_engine.specs.declared.outcome.Outcome.{Outcome}
 
 -- points have no two body lines
@@ -33,12 +38,21 @@ OneItemRefusal = (item : Listed) (cause other : Refusal) → IsItemRefused item 
 abbrev pub PieceOrRefusal : Type 0
 PieceOrRefusal = (item : Listed) (piece : List ℕ) (cause : Refusal) → IsPiece item piece → IsItemRefused item cause → ⊥
 
--- a text has no two reports, and ends with no two outcomes
-abbrev pub OneReport : Type 0
-OneReport = (text report other : List ℕ) (outcome another : Outcome) → IsReportOf text report outcome → IsReportOf text other another
-    → (report ≡ other) × (outcome ≡ another)
+-- of an item a job says one list of pieces, which ends in one way: so it is whole, or refused for one cause
+abbrev pub OneList : Type 0
+OneList = (job : Job) (item : Listed) (pieces other : List (List ℕ)) (closing another : Closing Refusal)
+    → ArePieces (Says job) 0 item pieces closing → ArePieces (Says job) 0 item other another → (pieces ≡ other) × (closing ≡ another)
 
--- a front of a text's report stands at the front of the report
+-- words and a text have one report, which ends with one outcome
+abbrev pub OneReport : Type 0
+OneReport = (words : List (List ℕ)) (text : List ℕ) (report other : List (List ℕ)) (outcome another : Outcome)
+    → HaveReport words text report outcome → HaveReport words text other another → (report ≡ other) × (outcome ≡ another)
+
+-- a front of a report stands at its front
 abbrev pub FrontsAreFronts : Type 0
-FrontsAreFronts = (text front report : List ℕ) (outcome : Outcome) → IsFrontOf text front → IsReportOf text report outcome
-    → (later : List ℕ) × (report ≡ front ++ later)
+FrontsAreFronts = (words : List (List ℕ)) (text : List ℕ) (front report : List (List ℕ))
+    → IsFront words text front → IsReport words text report → IsPrefix (concat front) (concat report)
+
+-- an empty report has no front but nothing
+abbrev pub EmptyFront : Type 0
+EmptyFront = (words : List (List ℕ)) (text : List ℕ) (front : List (List ℕ)) → IsFront words text front → IsReport words text [] → front ≡ []

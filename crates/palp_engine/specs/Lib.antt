@@ -4,11 +4,12 @@ pub mod WeightLines
 pub mod Reports
 pub mod Items
 pub mod Stops
+pub mod Commands
 pub mod Texts
 pub mod Statuses
 pub mod Notes
-pub mod Commands
 pub mod Sessions
-pub mod Readings
 pub mod Runs
+pub mod RunSteps
+pub mod ReadingSteps
 pub mod Laws

@@ -7,7 +7,7 @@ use Rattle.lattice_core.specs.declared.faults.Refusal.{Refusal}
 use Rattle.lattice_core.specs.declared.faults.Refusal.TheVariants.{Flat, Limit}
 use Rattle.lattice_core.specs.declared.faults.LimitName.{LimitName}
 use Rattle.lattice_core.specs.declared.faults.LimitName.TheVariants.{Systems, Weights, Degree, DegreeProduct, Frame, Dim, Input, Monomials, Size, Facets, Vertices, Points}
-use Rattle.palp_io.specs.Sink.{Gains, IsGiveFault}
+use Rattle.palp_io.specs.Sink.{SinkState, Gains, IsGiveFault}
 use Rattle.palp_words.specs.declared.fault.WordKind.{WordKind}
 use Rattle.palp_words.specs.declared.fault.WordKind.TheVariants as words
 use Rattle.palp_input.specs.declared.fault.TextKind.{TextKind}
@@ -75,7 +75,6 @@ note_line WriteFault = Some (codes "palp: write fault\n")
 note_line NoMemory = Some (codes "palp: no memory\n")
 
 -- the bytes were given to the sink of notes, or a front of them where its count of faults rose
-abbrev pub IsNoted : Option (List ℕ) → Option (List ℕ) → Option (List ℕ) → ℕ → ℕ → Type 0
-IsNoted None given_before given_now faults_before faults_now = (given_now ≡ given_before) × (faults_now ≡ faults_before)
-IsNoted (Some line) given_before given_now faults_before faults_now =
-    Gains given_before given_now line ⊎ IsGiveFault line given_before given_now faults_before faults_now
+abbrev pub IsNoted : Option (List ℕ) → SinkState → SinkState → Type 0
+IsNoted None before now = now ≡ before
+IsNoted (Some line) before now = Gains before now line ⊎ IsGiveFault line before now

@@ -1,10 +1,13 @@
--- The report of a text and the outcome that it ends with. This project's own.
-use Rattle.std.specs.Prelude.{◌≡◌, ◌⊎◌, ℕ, ◌+◌, List, [], ◌∷◌, ◌++◌}
+-- The report of words and a text, and the outcome that it ends with. This project's own.
+use Rattle.std.specs.Prelude.{◌≡◌, ℕ, List, [], Option, Some, None, Err}
 use Rattle.lattice_core.specs.declared.faults.Refusal.{Refusal}
-use Rattle.palp_input.specs.Grammar.{Listed, TextEnd, End, FaultEnd, TooLongEnd, read_text}
-use Rattle.palp_engine.specs.Items.{IsItemRefused, IsPiece}
+use Rattle.report_theory.specs.Report.{Stop, IsListReport, IsListFront}
+use Rattle.palp_words.specs.Words.{words_of}
+use Rattle.palp_words.specs.declared.fault.WordFault.{WordFault}
+use Rattle.palp_input.specs.Grammar.{TextEnd, End, FaultEnd, TooLongEnd, read_text}
+use Rattle.palp_engine.specs.Commands.{AreBuilt, AreUnbuilt, Says}
 use Rattle.palp_engine.specs.declared.outcome.Outcome.{Outcome}
-use Rattle.palp_engine.specs.declared.outcome.Outcome.TheVariants.{Done, BadText, Refused, TextLimit}
+use Rattle.palp_engine.specs.declared.outcome.Outcome.TheVariants.{Done, BadWords, BadText, Refused, TextLimit, NotBuilt}
 
 -- the outcome where no item is refused
 abbrev pub outcome_of : TextEnd → Outcome
@@ -12,34 +15,30 @@ outcome_of End = Done
 outcome_of (FaultEnd fault) = BadText fault
 outcome_of TooLongEnd = TextLimit
 
--- the report ends at an item that is refused, whose number is told with the cause
-pub record StopsAt (number : ℕ) (item : Listed) (report : List ℕ) (outcome : Outcome) : Type 0 where
-  pub cause : Refusal
-  pub refused : IsItemRefused item cause
-  pub nothing : report ≡ []
-  pub outcome_is : outcome ≡ Refused number cause
+-- the outcome where this is the first refusal, if there is one
+abbrev pub outcome_with : Option (Stop Refusal) → TextEnd → Outcome
+outcome_with (Some stop) ending = Refused stop.number stop.cause
+outcome_with None ending = outcome_of ending
 
--- The report of items, of which the first has this number: their pieces, in order, up to the first item that is refused. The outcome tells
--- that refusal, or else how the text ends.
-abbrev pub IsReport : ℕ → List Listed → TextEnd → List ℕ → Outcome → Type 0
-IsReport number [] ending report outcome = (report ≡ []) × (outcome ≡ outcome_of ending)
-IsReport number (item ∷ items) ending report outcome =
-    StopsAt number item report outcome
-    ⊎ ((piece later : List ℕ) × IsPiece item piece × (report ≡ piece ++ later) × IsReport (number + 1) items ending later outcome)
+-- Words and a text have this report, in pieces, which ends with this outcome. The report is that of the text's items, as the job says it.
+-- Where the words have a fault, or give a job that isn't built, it is empty.
+pub data HaveReport (words : List (List ℕ)) (text : List ℕ) : List (List ℕ) → Outcome → Type 0 where
+  of_items : {report : List (List ℕ)} {stop : Option (Stop Refusal)} (built : AreBuilt words)
+      → IsListReport (Says built.job) 1 0 (read_text text).items report stop
+      → HaveReport words text report (outcome_with stop (read_text text).ending)
+  of_unbuilt : AreUnbuilt words → HaveReport words text [] NotBuilt
+  of_bad_words : {fault : WordFault} → words_of words ≡ Err fault → HaveReport words text [] (BadWords fault)
 
--- A front of the report of items: nothing, or a front of the first item's piece, or that piece and a front of the report of the items behind
--- it.
-abbrev pub IsFront : List Listed → List ℕ → Type 0
-IsFront [] front = front ≡ []
-IsFront (item ∷ items) front =
-    (front ≡ [])
-    ⊎ ((piece : List ℕ) × IsPiece item piece
-    × (((missing : List ℕ) × (piece ≡ front ++ missing)) ⊎ ((later : List ℕ) × (front ≡ piece ++ later) × IsFront items later)))
+-- the report of words and a text, in pieces
+abbrev pub IsReport : List (List ℕ) → List ℕ → List (List ℕ) → Type 0
+IsReport words text report = (outcome : Outcome) × HaveReport words text report outcome
 
--- a front of the report of a text
-abbrev pub IsFrontOf : List ℕ → List ℕ → Type 0
-IsFrontOf text front = IsFront (read_text text).items front
+-- the outcome that it ends with
+abbrev pub EndsWith : List (List ℕ) → List ℕ → Outcome → Type 0
+EndsWith words text outcome = (report : List (List ℕ)) × HaveReport words text report outcome
 
--- the report of a text, and the outcome
-abbrev pub IsReportOf : List ℕ → List ℕ → Outcome → Type 0
-IsReportOf text report outcome = IsReport 1 (read_text text).items (read_text text).ending report outcome
+-- a front of the report of words and a text: some pieces, and of the last one perhaps a front
+pub data IsFront (words : List (List ℕ)) (text : List ℕ) : List (List ℕ) → Type 0 where
+  no_front : IsFront words text []
+  front_of_items : {front : List (List ℕ)} (built : AreBuilt words)
+      → IsListFront (Says built.job) 0 (read_text text).items front → IsFront words text front

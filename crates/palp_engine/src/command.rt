@@ -1,17 +1,17 @@
 //! The top call.
 
-ghost use Rattle.std.specs.Prelude.{◌≡◌, ◌<◌, ◌^◌, ◌↔◌, IsTrue, map, length};
+ghost use Rattle.std.specs.Prelude.{◌≡◌, ◌<◌, ◌≤◌, ◌^◌, ◌↔◌, IsTrue, map, length};
 ghost use Rattle.std.specs.List.{All};
 ghost use Rattle.std.specs.String.{string_bytes};
-ghost use Rattle.palp_io.specs.Faults.{Rose};
 ghost use Rattle.palp_input.specs.Grammar.{listed};
 ghost use Rattle.palp_input.specs.Items.{IsItem};
 ghost use Rattle.palp_engine.specs.Commands.{IsBuilt};
 ghost use Rattle.palp_engine.specs.Notes.{note_line, IsNoted};
 ghost use Rattle.palp_engine.specs.Texts.{outcome_of};
-ghost use Rattle.palp_engine.specs.Readings.{text_end};
-ghost use Rattle.palp_engine.specs.Sessions.{IsStopped, ReportMeans};
-ghost use Rattle.palp_engine.specs.Runs.{IsPerformed, IsRun, IsSettled};
+ghost use Rattle.palp_engine.specs.ReadingSteps.{text_end};
+ghost use Rattle.palp_engine.specs.RunSteps.{IsAnswered, IsPerformed, IsStopped, ReportMeans};
+ghost use Rattle.palp_engine.specs.Runs.{HasTaken, TellsBadWords, TellsNotBuilt, IsDone, IsRefusal, IsReported, IsCut, IsBegun, IsComplete};
+ghost use Rattle.palp_engine.specs.declared.outcome.Outcome.TheVariants.{Done, ReadFault, WriteFault, NoMemory};
 
 use crate::Outcome;
 use crate::lines::note_line as note_of;
@@ -72,12 +72,7 @@ fn stopped(number: u64, fault: ItemFault) -> Outcome
 fn report<O: Sink>(alloc: Global, job: &Job, items: &[Item], ending: Ending, out: &mut O) -> Outcome
     requires job { IsBuilt job.now }
     requires items { All (λ item. IsItem (listed item)) items.now }
-    ensures { ReportMeans (map listed items.now) (text_end ending) (record {
-      given_before = O.given out.old;
-      faults_before = O.faults out.old;
-      given_now = O.given out.new;
-      faults_now = O.faults out.new;
-    }) result }
+    ensures { ReportMeans job.now (map listed items.now) (text_end ending) (O.state out.old) (O.state out.new) result }
 {
     let Ok(mut session) = Session::open(alloc) else {
         return Outcome::NoMemory;
@@ -93,24 +88,7 @@ fn report<O: Sink>(alloc: Global, job: &Job, items: &[Item], ending: Ending, out
 /// Does the job that is built.
 fn perform<S: Source, O: Sink>(alloc: Global, job: &Job, src: &mut S, out: &mut O) -> Outcome
     requires { IsBuilt job.now }
-    ensures { IsPerformed
-        (record {
-          left_before = S.left src.old;
-          taken_before = S.taken src.old;
-          ended_before = S.ended src.old;
-          faults_before = S.faults src.old;
-          left_now = S.left src.new;
-          taken_now = S.taken src.new;
-          ended_now = S.ended src.new;
-          faults_now = S.faults src.new;
-        })
-        (record {
-          given_before = O.given out.old;
-          faults_before = O.faults out.old;
-          given_now = O.given out.new;
-          faults_now = O.faults out.new;
-        })
-        result }
+    ensures { IsPerformed job.now (S.state src.old) (S.state src.new) (O.state out.old) (O.state out.new) result }
 {
     match read_all(alloc, src) {
         Ok(reading) => report(alloc, job, &reading.items, reading.ending, out),
@@ -122,24 +100,7 @@ fn perform<S: Source, O: Sink>(alloc: Global, job: &Job, src: &mut S, out: &mut 
 /// Does what the words say, but for the note.
 fn answer<S: Source, O: Sink>(alloc: Global, words: &[String], src: &mut S, out: &mut O) -> Outcome
     requires { length words.now < 2 ^ 31 }
-    ensures { IsRun (map string_bytes words.now)
-        (record {
-          left_before = S.left src.old;
-          taken_before = S.taken src.old;
-          ended_before = S.ended src.old;
-          faults_before = S.faults src.old;
-          left_now = S.left src.new;
-          taken_now = S.taken src.new;
-          ended_now = S.ended src.new;
-          faults_now = S.faults src.new;
-        })
-        (record {
-          given_before = O.given out.old;
-          faults_before = O.faults out.old;
-          given_now = O.given out.new;
-          faults_now = O.faults out.new;
-        })
-        result }
+    ensures { IsAnswered (map string_bytes words.now) (S.state src.old) (S.state src.new) (O.state out.old) (O.state out.new) result }
 {
     match read_words(words) {
         Ok(job) if is_built(&job) => perform(alloc, &job, src, out),
@@ -155,8 +116,11 @@ fn answer<S: Source, O: Sink>(alloc: Global, words: &[String], src: &mut S, out:
 /// report was given. `Refused` tells the first item that exceeds a limit (docs/limits.md) or is flat, `BadText` the first fault of the
 /// text, and `TextLimit` a text of more than 67,108,864 bytes; the items before are reported. Other commands are `NotBuilt`, and words that
 /// give none are `BadWords`; nothing is read then. `ReadFault` and `WriteFault` come only where the count of faults of the source, or of
-/// `out`, rose in this call; `NoMemory` may come at any step of `poly`. At most 67,108,865 bytes are taken. For each outcome but `Done` the
-/// outcome's note line is given to `notes`, or a front of it where the count of faults of `notes` rose, which changes nothing else.
+/// `out`, rose in this call; `NoMemory` may come at any step of `poly`. At most 67,108,865 bytes are taken, and none after the source's end.
+/// Where the report is empty nothing is given to `out`. For each outcome but `Done` the outcome's note line is given to `notes`, or a front
+/// of it where the count of faults of `notes` rose, which changes nothing else.
+///
+/// The text is what the source had left. Of a source that doesn't tell that, as a real stream, the text is the bytes that passed.
 pub fn run<S: Source, O: Sink, N: Sink>(
     alloc: Global,
     words: &[String],
@@ -166,32 +130,40 @@ pub fn run<S: Source, O: Sink, N: Sink>(
 ) -> Outcome
     requires { length words.now < 2 ^ 31 }
 
-    // What was taken and appended, and what each outcome means.
-    ensures run { IsRun (map string_bytes words.now)
-        (record {
-          left_before = S.left src.old;
-          taken_before = S.taken src.old;
-          ended_before = S.ended src.old;
-          faults_before = S.faults src.old;
-          left_now = S.left src.new;
-          taken_now = S.taken src.new;
-          ended_now = S.ended src.new;
-          faults_now = S.faults src.new;
-        })
-        (record {
-          given_before = O.given out.old;
-          faults_before = O.faults out.old;
-          given_now = O.given out.new;
-          faults_now = O.faults out.new;
-        })
-        result }
+    // Some bytes passed from the source, at most 67,108,865.
+    ensures taken { HasTaken (S.state src.old) (S.state src.new) }
 
-    // The note line, whatever `notes` answers.
-    ensures notes { IsNoted (note_line result) (N.given notes.old) (N.given notes.new) (N.faults notes.old) (N.faults notes.new) }
+    // `BadWords` comes exactly where the words have that fault, and `NotBuilt` exactly where they give a job that isn't built; nothing was
+    // read or given then.
+    ensures bad_words { TellsBadWords (map string_bytes words.now) result (S.state src.old) (S.state src.new) (O.state out.old) (O.state out.new) }
+    ensures not_built { TellsNotBuilt (map string_bytes words.now) result (S.state src.old) (S.state src.new) (O.state out.old) (O.state out.new) }
 
-    // Where no count of faults rose, the outcome is one that the words and the text have.
-    ensures completeness { (Rose (S.faults src.old) (S.faults src.new) → ⊥) → (Rose (O.faults out.old) (O.faults out.new) → ⊥)
-        → IsSettled result }
+    // With `Done` the report was appended, whole, and the source was read to its end.
+    ensures done { result ≡ Done → IsDone (map string_bytes words.now) (S.state src.old) (S.state src.new) (O.state out.old) (O.state out.new) }
+
+    // With `BadText`, `Refused` and `TextLimit` the report was appended, whole, and ends with this outcome.
+    ensures refusals { IsRefusal result
+        → IsReported (map string_bytes words.now) (S.state src.old) (S.state src.new) (O.state out.old) (O.state out.new) result }
+
+    // With `ReadFault` the count of faults of the source rose, with `WriteFault` that of `out`; with both, and with `NoMemory`, a front of the
+    // report was appended.
+    ensures read_fault { result ≡ ReadFault → IsCut (map string_bytes words.now) (S.state src.old).faults (S.state src.new).faults
+        (S.state src.old) (S.state src.new) (O.state out.old) (O.state out.new) }
+    ensures write_fault { result ≡ WriteFault → IsCut (map string_bytes words.now) (O.state out.old).faults (O.state out.new).faults
+        (S.state src.old) (S.state src.new) (O.state out.old) (O.state out.new) }
+    ensures no_memory { result ≡ NoMemory
+        → IsBegun (map string_bytes words.now) (S.state src.old) (S.state src.new) (O.state out.old) (O.state out.new) }
+
+    // Where no count of faults of the source or `out` rose, the outcome is that of the words and the text, or `NoMemory`.
+    ensures completeness { IsComplete (map string_bytes words.now) result (S.state src.old) (S.state src.new) (O.state out.old) (O.state out.new) }
+
+    // Whatever `notes` answers: the outcome's note line was given to it, whole where its count of faults didn't rise, and nothing else.
+    ensures notes { IsNoted (note_line result) (N.state notes.old) (N.state notes.new) }
+
+    // No count of faults fell.
+    ensures source_faults { (S.state src.old).faults ≤ (S.state src.new).faults }
+    ensures out_faults { (O.state out.old).faults ≤ (O.state out.new).faults }
+    ensures note_faults { (N.state notes.old).faults ≤ (N.state notes.new).faults }
 {
     let outcome = answer(alloc, words, src, out);
     if let Some(line) = note_of(&outcome) {

@@ -4,7 +4,7 @@ ghost use Rattle.std.specs.Prelude.{IfOk};
 ghost use Rattle.std.specs.List.{All};
 ghost use Rattle.palp_input.specs.Grammar.{listed};
 ghost use Rattle.palp_input.specs.Items.{IsItem};
-ghost use Rattle.palp_engine.specs.Readings.{IsTaking, ReadingMeans};
+ghost use Rattle.palp_engine.specs.ReadingSteps.{Reads};
 
 use palp_input::{Item, NextFault, Reader, TextFault};
 use palp_io::Source;
@@ -39,20 +39,10 @@ pub(crate) enum ReadingFault {
     NoMemory,
 }
 
-/// Reads all items of the source, each of which is an item of a text. At most 67,108,865 bytes are taken. `Source` comes only where the
-/// source failed.
+/// Reads all items of the source, each of which is an item of a text. At most 67,108,865 bytes are taken, and nothing after a take has
+/// answered `End`. `Source` comes only where the source failed.
 pub(crate) fn read_all<S: Source>(alloc: Global, src: &mut S) -> Result<Reading, ReadingFault>
-    ensures taking { IsTaking (S.left src.old) (S.taken src.old) (S.left src.new) (S.taken src.new) }
-    ensures means { ReadingMeans result (record {
-      left_before = S.left src.old;
-      taken_before = S.taken src.old;
-      ended_before = S.ended src.old;
-      faults_before = S.faults src.old;
-      left_now = S.left src.new;
-      taken_now = S.taken src.new;
-      ended_now = S.ended src.new;
-      faults_now = S.faults src.new;
-    }) }
+    ensures reads { Reads result (S.state src.old) (S.state src.new) }
     ensures items { IfOk result (λ reading. All (λ item. IsItem (listed item)) reading.items.items) }
 {
     let mut reader = Reader::new(alloc);

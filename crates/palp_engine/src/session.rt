@@ -130,12 +130,14 @@ fn write_piece(alloc: Global, page: &mut Vec<u8>, item: &Item) -> Result<(), Fau
     Ok(())
 }
 
-/// Gives the piece of one item to `out`: for a weight line its numbers, then the numbers of lattice points, vertices and facets. The job
-/// is `poly` with `-n` alone, and the item is one of a text. After every answer the session serves a next item.
+/// Gives the pieces of one item to `out`, one after another, as the job says them. The job is `poly` with `-n` alone, which says of an item
+/// one piece: for a weight line its numbers, then the numbers of lattice points, vertices and facets. The item is one of a text. After every
+/// answer the session serves a next item.
 ///
-/// `Ok` appends the piece, whole. `Refused` comes exactly where the item is refused, and tells its first cause; nothing is appended, and the
-/// count of faults of `out` is as it was. So it is with `NoMemory`, which comes where the item's points, its facets or its piece find no
-/// memory. `Write` comes only where the count of faults of `out` rose in this call; a front of the piece was appended.
+/// `Ok` comes only where the item isn't refused, and appends all its pieces. `Refused` comes only with the item's first refusal, behind the
+/// pieces before it, of which `poly` with `-n` has none. `Write` comes only where the count of faults of `out` rose in this call, and
+/// `NoMemory` where the item's points, its facets or its piece find no memory; both leave a front of the item's pieces. So where that count
+/// didn't rise the answer is `Ok`, that refusal or `NoMemory`. Where an item has no piece nothing is given.
 pub fn report_item<O: Sink>(
     session: &mut Session,
     job: &Job,
@@ -144,12 +146,7 @@ pub fn report_item<O: Sink>(
 ) -> Result<(), ItemFault>
     requires job { IsBuilt job.now }
     requires item { IsItem (listed item.now) }
-    ensures { ItemMeans result (listed item.now) (record {
-      given_before = O.given out.old;
-      faults_before = O.faults out.old;
-      given_now = O.given out.new;
-      faults_now = O.faults out.new;
-    }) }
+    ensures { ItemMeans result job.now (listed item.now) (O.state out.old) (O.state out.new) }
 {
     write_piece(session.alloc, &mut session.page, item)?;
     match out.give(&session.page) {

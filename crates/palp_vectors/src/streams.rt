@@ -11,7 +11,7 @@ fn each_take_may_fail(rt: HostRuntime) -> Result<(), Fail> {
         ..done("3 1 1 1\n", "")
     };
     let whole = done("3 1 1 1\n", "3 1 1 1 M:10 3 F:3\n");
-    for (chunk, takes) in [(1_usize, 10_u64), (2, 6), (7, 4), (4096, 3)] {
+    for (chunk, takes) in [(1_usize, 9_u64), (2, 5), (7, 3), (4096, 2)] {
         for take in 1..takes + 1 {
             assert!(rt; is_answered(&rt, &fault, chunk, failing_take(take))?);
         }
@@ -40,10 +40,32 @@ fn each_give_may_fail(rt: HostRuntime) -> Result<(), Fail> {
     let whole = done(text, lines[3]);
     assert!(rt; is_answered(&rt, &whole, 7, failing_give(4))?);
     assert!(rt; is_answered(&rt, &whole, 7, failing_note(1))?);
+    Ok(())
+}
+
+#[test]
+fn nothing_is_given_for_an_empty_report(rt: HostRuntime) -> Result<(), Fail> {
+    for text in ["", "\n \n"] {
+        assert!(rt; is_answered(&rt, &done(text, ""), 7, failing_give(1))?);
+    }
     let flat = Case {
+        note: "palp: item 1: flat: -1 1 0\n",
         status: 4,
         ..done("3 2\n0 0\n1 1\n2 2\n", "")
     };
-    assert!(rt; is_answered(&rt, &flat, 7, failing_note(1))?);
+    assert!(rt; is_answered(&rt, &flat, 7, failing_give(1))?);
+    Ok(())
+}
+
+#[test]
+fn a_note_is_one_give(rt: HostRuntime) -> Result<(), Fail> {
+    let flat = Case {
+        note: "palp: item 1: flat: -1 1 0\n",
+        status: 4,
+        ..done("3 2\n0 0\n1 1\n2 2\n", "")
+    };
+    assert!(rt; is_answered(&rt, &flat, 7, failing_note(2))?);
+    let unnoted = Case { note: "", ..flat };
+    assert!(rt; is_answered(&rt, &unnoted, 7, failing_note(1))?);
     Ok(())
 }

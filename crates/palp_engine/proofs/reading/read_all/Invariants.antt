@@ -4,9 +4,7 @@ use Rattle.palp_engine.proofs.TextReadings.{ReadSoFar}
 use Rattle.palp_engine.proofs.reading.read_all.Given as goal
 
 abbrev pub invariant-loop-item : goal.invariant-loop-item
-invariant-loop-item g l =
-    ReadSoFar (g.S.Source.left l.fn.src) (g.S.Source.taken l.fn.src) (g.S.Source.left l.src) (g.S.Source.taken l.src) l.reader l.items.items
-    (g.S.Source.faults l.fn.src) (g.S.Source.faults l.src)
+invariant-loop-item g l = ReadSoFar (g.S.Source.state l.fn.src) (g.S.Source.state l.src) l.reader l.items.items
 
 abbrev pub decreases-loop-item : goal.decreases-loop-item
 decreases-loop-item g l = most_bytes + 1 - l.reader.bytes

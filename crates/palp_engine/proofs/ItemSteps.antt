@@ -1,0 +1,43 @@
+-- Giving the one piece of an item.
+use Rattle.std.proofs.Common.{ℕ, ◌≤◌, List, [], ◌∷◌, Err, sym, subst, refl}
+use Rattle.lattice_core.specs.declared.faults.Refusal.{Refusal}
+use Rattle.lattice_core.specs.declared.faults.Fault.{Fault}
+use Rattle.lattice_core.specs.declared.faults.Fault.TheVariants as faults
+use Rattle.palp_io.specs.Sink.{SinkState, Gains, GainsFront}
+use Rattle.report_theory.specs.Report.{Whole, Ends, Step}
+use Rattle.report_theory.specs.Giving.{GivesItem, GivesFront}
+use Rattle.report_theory.proofs.Givings.{item_nothing, item_piece, item_closed, item_front, item_part}
+use Rattle.palp_words.specs.declared.job.Job.{Job}
+use Rattle.palp_input.specs.Grammar.{Listed}
+use Rattle.palp_engine.specs.Stops.{StopsItem, IsItemStop}
+use Rattle.palp_engine.specs.Items.{IsPiece, IsItemRefused}
+use Rattle.palp_engine.specs.Commands.{IsBuilt, PlainSays, line, whole, refused, Says}
+use Rattle.palp_engine.specs.Sessions.{ItemMeans}
+use Rattle.palp_engine.specs.declared.session.ItemFault.{ItemFault}
+
+-- the job that is built says what `poly -n` says
+built_says : (job : Job) (item : Listed) (k : ℕ) (step : Step Refusal) → IsBuilt job → PlainSays item k step → Says job item k step
+built_says job item k step built a = subst (λ (j : Job). Says j item k step) (sym built) (refl, a)
+
+module _ (job : Job) (built : IsBuilt job) (item : Listed) (out : SinkState) where
+  pub refused_item : (cause : Refusal) → IsItemRefused item cause → GivesItem (Says job) item (Ends cause) out out
+  refused_item cause a =
+      item_closed (Says job) out out item 0 (item_nothing (Says job) out item) (Ends cause) (built_says job item 0 _ built (refused a))
+
+  pub no_piece : GivesFront (Says job) (item ∷ []) out out
+  no_piece = item_front (Says job) out out item 0 (item_nothing (Says job) out item)
+
+  -- an item that stops
+  pub stopped_item : (fault : Fault) (told : ItemFault) → StopsItem item fault → IsItemStop fault told → ItemMeans (Err told) job item out out
+  stopped_item (faults.Refused cause) told s e = subst (λ (t : ItemFault). ItemMeans (Err t) job item out out) (sym e) (refused_item cause s)
+  stopped_item faults.NoMemory told s e = subst (λ (t : ItemFault). ItemMeans (Err t) job item out out) (sym e) no_piece
+
+  module _ (piece : List ℕ) (is_piece : IsPiece item piece) (last : SinkState) (later : out.faults ≤ last.faults) where
+    pub whole_item : Gains out last piece → GivesItem (Says job) item Whole out last
+    whole_item g = item_closed (Says job) out last item 1
+        (item_piece (Says job) out out item 0 (item_nothing (Says job) out item) piece last (built_says job item 0 _ built (line is_piece)) g later)
+        Whole (built_says job item 1 _ built whole)
+
+    pub part_of_item : GainsFront out last piece → GivesFront (Says job) (item ∷ []) out last
+    part_of_item g =
+        item_part (Says job) out out item 0 (item_nothing (Says job) out item) piece last (built_says job item 0 _ built (line is_piece)) g later

@@ -1,0 +1,67 @@
+-- What the steps of a run answer. This project's own.
+use Rattle.std.specs.Prelude.{◌≡◌, ℕ, List, Option, Err}
+use Rattle.lattice_core.specs.declared.faults.Refusal.{Refusal}
+use Rattle.palp_io.specs.Faults.{Rose}
+use Rattle.palp_io.specs.Source.{SourceState}
+use Rattle.palp_io.specs.Sink.{SinkState}
+use Rattle.report_theory.specs.Report.{Stop}
+use Rattle.report_theory.specs.Giving.{GivesReport, GivesFront}
+use Rattle.palp_words.specs.Words.{words_of}
+use Rattle.palp_words.specs.declared.job.Job.{Job}
+use Rattle.palp_input.specs.Grammar.{Listed, TextEnd}
+use Rattle.palp_engine.specs.Commands.{AreBuilt, AreUnbuilt, Says}
+use Rattle.palp_engine.specs.Texts.{outcome_with}
+use Rattle.palp_engine.specs.Runs.{HasTaken, AreUntouched, IsReported, IsBegun, IsDone, IsCut}
+use Rattle.palp_engine.specs.declared.outcome.Outcome.{Outcome}
+use Rattle.palp_engine.specs.declared.outcome.Outcome.TheVariants.{Done, BadWords, BadText, Refused, TextLimit, NotBuilt, ReadFault, WriteFault, NoMemory}
+use Rattle.palp_engine.specs.declared.session.ItemFault.{ItemFault}
+use Rattle.palp_engine.specs.declared.session.ItemFault.TheVariants as faults
+
+-- the report of items was appended, whole, and the outcome is the one that it ends with
+pub record GivesEnd (job : Job) (items : List Listed) (ending : TextEnd) (out out_now : SinkState) (outcome : Outcome) : Type 0 where
+  pub stop : Option (Stop Refusal)
+  pub gives : GivesReport (Says job) items stop out out_now
+  pub outcome_is : outcome ≡ outcome_with stop ending
+
+-- what an outcome of the report of items means
+abbrev pub ReportMeans : Job → List Listed → TextEnd → SinkState → SinkState → Outcome → Type 0
+ReportMeans job items ending out out_now Done = GivesEnd job items ending out out_now Done
+ReportMeans job items ending out out_now (BadText fault) = GivesEnd job items ending out out_now (BadText fault)
+ReportMeans job items ending out out_now (Refused item cause) = GivesEnd job items ending out out_now (Refused item cause)
+ReportMeans job items ending out out_now TextLimit = GivesEnd job items ending out out_now TextLimit
+ReportMeans job items ending out out_now WriteFault = Rose out.faults out_now.faults × GivesFront (Says job) items out out_now
+ReportMeans job items ending out out_now NoMemory = GivesFront (Says job) items out out_now
+ReportMeans job items ending out out_now other = ⊥
+
+-- the outcome of an item with this number whose report isn't given whole
+abbrev pub IsStopped : ℕ → ItemFault → Outcome → Type 0
+IsStopped number (faults.Refused cause) outcome = outcome ≡ Refused number cause
+IsStopped number faults.Write outcome = outcome ≡ WriteFault
+IsStopped number faults.NoMemory outcome = outcome ≡ NoMemory
+
+-- what each outcome of words means that give a job that is built
+abbrev pub PerformedMeans : List (List ℕ) → SourceState → SourceState → SinkState → SinkState → Outcome → Type 0
+PerformedMeans words source source_now out out_now Done = IsDone words source source_now out out_now
+PerformedMeans words source source_now out out_now (BadText fault) = IsReported words source source_now out out_now (BadText fault)
+PerformedMeans words source source_now out out_now (Refused item cause) = IsReported words source source_now out out_now (Refused item cause)
+PerformedMeans words source source_now out out_now TextLimit = IsReported words source source_now out out_now TextLimit
+PerformedMeans words source source_now out out_now ReadFault = IsCut words source.faults source_now.faults source source_now out out_now
+PerformedMeans words source source_now out out_now WriteFault = IsCut words out.faults out_now.faults source source_now out out_now
+PerformedMeans words source source_now out out_now NoMemory = IsBegun words source source_now out out_now
+PerformedMeans words source source_now out out_now other = ⊥
+
+-- the job was done, whatever words give it
+pub record IsPerformed (job : Job) (source source_now : SourceState) (out out_now : SinkState) (outcome : Outcome) : Type 0 where
+  pub taken : HasTaken source source_now
+  pub means : (words : List (List ℕ)) (built : AreBuilt words) → built.job ≡ job → PerformedMeans words source source_now out out_now outcome
+
+-- what each outcome means
+abbrev pub AnswerMeans : List (List ℕ) → SourceState → SourceState → SinkState → SinkState → Outcome → Type 0
+AnswerMeans words source source_now out out_now (BadWords fault) = (words_of words ≡ Err fault) × AreUntouched source source_now out out_now
+AnswerMeans words source source_now out out_now NotBuilt = AreUnbuilt words × AreUntouched source source_now out out_now
+AnswerMeans words source source_now out out_now outcome = AreBuilt words × PerformedMeans words source source_now out out_now outcome
+
+-- so many bytes passed, and the outcome means what it says
+pub record IsAnswered (words : List (List ℕ)) (source source_now : SourceState) (out out_now : SinkState) (outcome : Outcome) : Type 0 where
+  pub taken : HasTaken source source_now
+  pub means : AnswerMeans words source source_now out out_now outcome
