@@ -6,4 +6,4 @@ pub mod KernelGrowth
 pub mod KernelLaws
 pub mod KernelSize
 pub mod KernelPlaces
-pub mod Examples
+pub mod ExampleSteps

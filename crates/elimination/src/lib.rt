@@ -8,6 +8,9 @@
 //! ones (`few_determine`).
 #![tactic(auto)]
 
+mod examples;
 pub mod kernel;
 pub mod kernel_size;
 pub mod places;
+
+pub use examples::kernel_is_an_example;

@@ -19,4 +19,4 @@ pub mod Order
 pub mod Candidates
 pub mod Listed
 pub mod Vertices
-pub mod Examples
+pub mod ExampleSteps

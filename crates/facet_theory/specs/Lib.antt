@@ -8,3 +8,4 @@ pub use Rattle.lattice_theory.specs.Points
 pub mod Sums
 pub mod Solid
 pub mod Laws
+pub mod Examples

@@ -10,6 +10,9 @@
 #![tactic(auto)]
 
 pub mod dilates;
+mod examples;
 pub mod facets;
 pub mod hulls;
 pub mod vertex;
+
+pub use examples::corner_is_an_example;

@@ -16,7 +16,7 @@ in_space x y z = x ∷ y ∷ z ∷ []
 abbrev pub function : List ℤ → ℤ → Affine
 function x c = record { normal = x; constant = c }
 
--- -1, -2, -3 and -4
+-- -1, -2, -3, -4 and -5
 abbrev pub minus1 : ℤ
 minus1 = negsuc 0
 
@@ -28,6 +28,9 @@ minus3 = negsuc 2
 
 abbrev pub minus4 : ℤ
 minus4 = negsuc 3
+
+abbrev pub minus5 : ℤ
+minus5 = negsuc 4
 
 -- the corners of a square, its center, and one corner again
 abbrev pub square : List (List ℤ)

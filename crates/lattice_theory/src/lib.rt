@@ -11,7 +11,7 @@ ghost use Rattle.lattice_theory.specs.Laws.{AscendingListOfVectorsIsUnique, Asce
 
 pub use examples::{
     diagonal_is_an_example, octahedron_is_an_example, segment_is_an_example, square_is_an_example,
-    triangle_is_an_example,
+    triangle_is_an_example, vectors_are_an_example,
 };
 pub use flat::flat_function_is_unique;
 pub use primitive::{primitive_multiple, primitive_part, primitive_same};

@@ -7,4 +7,4 @@ pub mod Normals
 pub mod KernelMembers
 pub mod Numbers
 pub mod Products
-pub mod Examples
+pub mod ExampleSteps

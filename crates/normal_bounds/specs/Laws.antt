@@ -40,11 +40,13 @@ PointAbsoluteSum = (n : ℕ) (points : List (List ℤ)) → HaveDimension n poin
 abbrev pub DifferenceAbsoluteSum : Type 0
 DifferenceAbsoluteSum = (p q w : List ℤ) → ((i : ℕ) → entry w i ≡ entry p i -ℤ entry q i) → absolute_sum w ≤ absolute_sum p + absolute_sum q
 
--- up to the safe size, with n coordinates and after j pivots that are differences: entries and values of members are below 2^63
+-- up to the safe size of n coordinates, at most n - 1 factors 2S are below 2^63. So after j pivots that are differences of points, the entries of
+-- members are below 2^63 where j is less than n, and their values at differences where j + 1 is.
 abbrev pub EntriesFit : Type 0
 EntriesFit = (n j S : ℕ) → j + 1 ≤ n → S ≤ safe_size n → (2 * S) ^ j < 2 ^ 63
 
--- before the last pivot, the two products of a step together are below 2^127
+-- while two members are left, which is after at most n - 2 pivots, the two products of a step, each of an entry and a value, together are below
+-- 2^127
 abbrev pub StepFits : Type 0
 StepFits = (n j S : ℕ) → j + 2 ≤ n → S ≤ safe_size n → 2 * ((2 * S) ^ j * (2 * S) ^ (j + 1)) < 2 ^ 127
 

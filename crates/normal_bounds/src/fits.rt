@@ -2,12 +2,13 @@
 ghost use Rattle.normal_bounds.specs.InNumbers.{ValuesFit, MembersFit, StepProductsFit, FunctionsFit, CombineProductsFit};
 ghost use Rattle.normal_bounds.specs.Laws.{EntriesFit, StepFits, CombineFits};
 
-/// The entries of members and of normals, and the values of members at differences before the last pivot, are below 2^63.
+/// At most n - 1 factors 2S are below 2^63: so are the entries of normals and of members, and the values of members at differences after at most
+/// n - 2 pivots.
 pub fn entries_fit()
     ensures { EntriesFit }
 {}
 
-/// The two products of a step of elimination are together below 2^127.
+/// While two members are left, the two products of a step of elimination, each of an entry and a value, are together below 2^127.
 pub fn step_fits()
     ensures { StepFits }
 {}
@@ -17,7 +18,7 @@ pub fn combine_fits()
     ensures { CombineFits }
 {}
 
-/// Values at points, and constants, are below 2^76.
+/// At most n factors 2S are below 2^76: so are the values of functions at points, their constants, and the values of members at differences.
 pub fn values_fit()
     ensures { ValuesFit }
 {}

@@ -8,5 +8,8 @@
 #![tactic(auto)]
 
 pub mod bounds;
+mod examples;
 pub mod fits;
 pub mod absolute_sums;
+
+pub use examples::two_points_are_an_example;

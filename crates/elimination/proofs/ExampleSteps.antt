@@ -1,8 +1,9 @@
 -- A worked example: the vectors that pair to 0 with (1, 2, 3) and (4, 5, 6) are the multiples of (1, -2, 1).
 use Rattle.std.proofs.Common.{◌≡◌, ℕ, zero, suc, ◌≤◌, List, [], ◌∷◌, ℤ, pos, negsuc, ◌-ℤ◌, ◌*ℤ◌, refl, arith}
 use Rattle.lattice_theory.specs.Vector.{entry, dot}
-use Rattle.elimination.specs.Elimination.{Member, IsKernel, ArePivots, IsReduced}
+use Rattle.elimination.specs.Elimination.{Member, pairings, IsCombination, IsKernel, ArePivots, IsReduced}
 use Rattle.lattice_theory.proofs.Integers.{linear}
+use Rattle.std.proofs.lemmas.Int.{ints}
 use Rattle.std.proofs.lemmas.List.Elements.{All-nil, All-cons}
 use Rattle.elimination.proofs.KernelForm.{kernel_out}
 use Rattle.elimination.proofs.KernelStart.{units_kernel, units_pivots}
@@ -65,7 +66,7 @@ second_of_two = record { own = refl; dimension = refl; positive = omega (arith, 
     entries (suc (suc (suc j))) = refl
 
 -- -3 (1, -2, 1) = -3 (-3, 0, 1) - -6 (-2, 1, 0)
-the_last : IsReduced k1 v2 k2 last
+pub the_last : IsReduced k1 v2 k2 last
 the_last = record { own = refl; dimension = refl; positive = omega (arith, linear); factor = negsuc 2; nonzero = λ (e : negsuc 2 ≡ pos 0). absurd (omega (arith, linear)); entries = entries }
   where
     entries : (j : ℕ) → negsuc 2 *ℤ entry last.vector j ≡ dot k1.vector v2 *ℤ entry k2.vector j -ℤ dot k2.vector v2 *ℤ entry k1.vector j
@@ -85,3 +86,14 @@ pub after_both : IsKernel 3 (v1 ∷ (v2 ∷ [])) (last ∷ []) × ArePivots 3 (v
 after_both = kernel_steps_lem 3 (v1 ∷ []) (v1 ∷ []) [] k1 (k2 ∷ []) (last ∷ []) v2 after_first.0 after_first.1
     (All-nil (λ k. dot k.vector v2 ≡ pos 0)) (λ (e : negsuc 2 ≡ pos 0). absurd (omega (arith, linear)))
     (All-cons (λ k. 1 ≤ k.own) k2 [] (omega arith) (All-nil (λ k. 1 ≤ k.own))) (the_last, tt)
+
+-- (-2, 4, -2) is -2 times the member
+twice : (x : List ℤ) → pos 1 *ℤ dot (negsuc 1 ∷ (pos 4 ∷ (negsuc 1 ∷ []))) x ≡ pairings (negsuc 1 ∷ []) (last ∷ []) x
+twice [] = refl
+twice (a ∷ []) = omega (arith, ints)
+twice (a ∷ (b ∷ [])) = omega (arith, ints)
+twice (a ∷ (b ∷ (c ∷ x))) = omega (arith, ints)
+
+-- so it is a combination
+pub combination : IsCombination (last ∷ []) (negsuc 1 ∷ (pos 4 ∷ (negsuc 1 ∷ [])))
+combination = record { multiplier = 1; positive = omega arith; coefficients = negsuc 1 ∷ []; as_many = refl; sums = twice }

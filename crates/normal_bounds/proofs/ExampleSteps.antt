@@ -1,5 +1,5 @@
 -- A worked example: the points (2, 0) and (-1, 1) of the plane have absolute sum 2 and fix the function x + 3y - 2. Its entries 1 and 3 are at most 4.
-use Rattle.std.proofs.Common.{◌≡◌, ◌≤◌, List, [], ◌∷◌, length, ℤ, pos, negsuc, ◌+ℤ◌, ◌*ℤ◌, nat_abs, refl, ap₂, arith}
+use Rattle.std.proofs.Common.{◌≡◌, zero, suc, ◌≤◌, List, [], ◌∷◌, length, ℤ, pos, negsuc, ◌+ℤ◌, ◌*ℤ◌, nat_abs, refl, ap₂, arith}
 use Rattle.std.proofs.lemmas.Int.{ints}
 use Rattle.std.proofs.lemmas.List.Elements.{All-nil, All-cons, All-head, All-tail}
 use Rattle.lattice_theory.specs.Vector.{dot}
@@ -45,7 +45,7 @@ multiple (a ∷ (b ∷ [])) c l e e' = record {
 multiple (a ∷ (b ∷ (d ∷ x))) c l e e' = absurd (omega arith)
 
 -- the points fix the function
-fixed_by : IsFixedBy 2 (p ∷ (q ∷ [])) f
+pub fixed_by : IsFixedBy 2 (p ∷ (q ∷ [])) f
 fixed_by = record {
   dimension = refl;
   primitive = primitive_from_combination (pos 1 ∷ []) f.normal refl;
@@ -58,3 +58,12 @@ pub example_bound : EntriesWithin 4 f.normal × (nat_abs f.constant ≤ 8) × ((
 example_bound = normal_bound_lem 1 2 (p ∷ (q ∷ [])) f (omega arith) refl
     (All-cons (λ x. length x ≡ 2) p (q ∷ []) refl (All-cons (λ x. length x ≡ 2) q [] refl (All-nil (λ x. length x ≡ 2))))
     (All-cons (λ x. absolute_sum x ≤ 2) p (q ∷ []) (omega arith) (All-cons (λ x. absolute_sum x ≤ 2) q [] (omega arith) (All-nil (λ x. absolute_sum x ≤ 2)))) fixed_by
+
+-- the normal's entries
+pub within_three : EntriesWithin 3 f.normal
+within_three zero = omega arith
+within_three (suc zero) = omega arith
+within_three (suc (suc i)) = omega arith
+
+pub above_two : EntriesWithin 2 f.normal → ⊥
+above_two h = let second : 3 ≤ 2 = h 1 in absurd (omega arith)
