@@ -14,8 +14,8 @@ use Rattle.lattice_theory.proofs.Vectors.{length-scaled, entry-scaled, scaled-sc
 use Rattle.lattice_theory.proofs.Divisibility.{primitive_combination, primitive_from_combination, primitive_nonzero}
 use Rattle.normal_bounds.specs.Bounds.{IsFixedBy}
 use Rattle.hull.specs.Hyperplanes.{StartsPositive, HasTwoFunctions}
-use Rattle.hull.specs.Differences.{differences}
-use Rattle.hull.specs.Kernels.{IsPrimitiveKernel}
+use Rattle.hull.specs.steps.Differences.{differences}
+use Rattle.hull.specs.steps.Kernels.{IsPrimitiveKernel}
 use Rattle.hull.proofs.Kernels.{owns_later}
 use Rattle.hull.proofs.Vectors.{annihilates_differences, vanishes_from_differences, multiple_from_normals, normals_from_multiple}
 

@@ -11,13 +11,13 @@ use Rattle.elimination.specs.Elimination.{Member, Annihilates, IsKernel, IsCombi
 use Rattle.elimination.proofs.KernelSize.{single_kernel_lem, large_kernel_lem, multiplier_nonzero}
 use Rattle.lattice_theory.proofs.Members.{Each, more, In, here, there, each_from_all, in_from_contains, contains_from_in, in_append_left, in_append_right, in_append_cases}
 use Rattle.lattice_theory.proofs.Divisibility.{primitive_same}
-use Rattle.hull.specs.Differences.{difference}
+use Rattle.hull.specs.steps.Differences.{difference}
 use Rattle.std.specs.Prelude.{nat_abs, ◌*◌, ◌^◌}
 use Rattle.lattice_theory.specs.Size.{absolute_sum}
 use Rattle.lattice_core.specs.Limits.{size_limit_of, IsSized}
-use Rattle.hull.specs.Kernels.{IsPrimitiveKernel, IsSmallKernel}
+use Rattle.hull.specs.steps.Kernels.{IsPrimitiveKernel, IsSmallKernel}
 use Rattle.hull.proofs.Kernels.{member_entries}
-use Rattle.hull.specs.Search.{IsFrom, IsKernelOfPoints, IsReached, AddsFacets, IsSupporting, AddsEach}
+use Rattle.hull.specs.steps.Search.{IsFrom, IsKernelOfPoints, IsReached, AddsFacets, IsSupporting, AddsEach}
 use Rattle.hull.proofs.Vectors.{zero_difference, same_pairings, both_vanish, vanishes_too, absolute_sum-difference, points_small, multiple_from_normals}
 use Rattle.hull.proofs.AffineFunctions.{vanishes_at, opposite_value, opposite_primitive, opposite_multiple, only_member}
 

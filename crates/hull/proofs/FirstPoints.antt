@@ -13,8 +13,8 @@ use Rattle.elimination.specs.Elimination.{Member}
 use Rattle.lattice_theory.proofs.Members.{In, here, there, each_from_all, all_from_each, each_from_in, each_in, in_from_contains, contains_from_in, in_append_cases}
 use Rattle.facet_theory.specs.Solid.{AreSolid}
 use Rattle.facet_theory.proofs.FacetPoints.{facet_by_points_lem}
-use Rattle.hull.specs.Kernels.{IsPrimitiveKernel}
-use Rattle.hull.specs.Search.{IsKernelOfPoints, IsReached, AddsFacets}
+use Rattle.hull.specs.steps.Kernels.{IsPrimitiveKernel}
+use Rattle.hull.specs.steps.Search.{IsKernelOfPoints, IsReached, AddsFacets}
 use Rattle.hull.proofs.Pivots.{take_more}
 use Rattle.hull.proofs.Vectors.{normals_from_multiple}
 

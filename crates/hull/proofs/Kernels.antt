@@ -14,7 +14,7 @@ use Rattle.lattice_theory.proofs.Divisibility.{primitive_from_combination}
 use Rattle.lattice_theory.proofs.Vectors.{unit, dot-unit}
 use Rattle.normal_bounds.proofs.Products.{members_fit_lem, step_products_fit_lem}
 use Rattle.lattice_core.specs.Limits.{size_limit_of}
-use Rattle.hull.specs.Kernels.{IsPrimitiveKernel, IsSmallKernel, CanReduce, IsReducedBy, IsStepped}
+use Rattle.hull.specs.steps.Kernels.{IsPrimitiveKernel, IsSmallKernel, CanReduce, IsReducedBy, IsStepped}
 use Rattle.lattice_core.proofs.SizeLimits.{limit_positive}
 
 -- the pivots are as small as the vectors

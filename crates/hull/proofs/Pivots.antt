@@ -9,7 +9,7 @@ use Rattle.lattice_theory.specs.Size.{absolute_sum}
 use Rattle.elimination.specs.Elimination.{Member, IsReduced}
 use Rattle.lattice_theory.proofs.Members.{all_from_each, empty, In, in_from_contains, contains_from_in, in_append_left, in_append_right}
 use Rattle.lattice_core.specs.Limits.{size_limit_of}
-use Rattle.hull.specs.Kernels.{IsPrimitiveKernel, IsSmallKernel, IsPivotAt, CanReduce, IsReducedBy, IsStepped}
+use Rattle.hull.specs.steps.Kernels.{IsPrimitiveKernel, IsSmallKernel, IsPivotAt, CanReduce, IsReducedBy, IsStepped}
 use Rattle.hull.proofs.Kernels.{can_reduce, reduced_at, kernel_stepped, stepped_length, kernel_stayed}
 
 -- the first members and one more

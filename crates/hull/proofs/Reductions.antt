@@ -6,7 +6,7 @@ use Rattle.facet_theory.proofs.Signs.{positive_from}
 use Rattle.elimination.specs.Elimination.{Member}
 use Rattle.lattice_theory.proofs.Vectors.{length-scaled, entry-scaled, entries_from_zero}
 use Rattle.lattice_core.specs.Divisors.{IsPrimitivePart}
-use Rattle.hull.specs.Kernels.{CanReduce, IsReducedBy, AreMultiplesApart}
+use Rattle.hull.specs.steps.Kernels.{CanReduce, IsReducedBy, AreMultiplesApart}
 
 -- an entry of the primitive part, times the factor
 pub part_entry : (v w : List ℤ) (h : IsPrimitivePart v w) (i : ℕ) → pos h.factor *ℤ entry w i ≡ entry v i

@@ -8,7 +8,7 @@ use Rattle.lattice_theory.specs.Vector.{entry}
 use Rattle.lattice_theory.proofs.Integers.{products_out, linear}
 use Rattle.lattice_theory.proofs.Vectors.{entry_past, entry_before, entry_last}
 use Rattle.lattice_theory.proofs.Members.{all_from_each, empty}
-use Rattle.hull.specs.Kernels.{AreMultiplesApart}
+use Rattle.hull.specs.steps.Kernels.{AreMultiplesApart}
 
 -- the first i entries are a x_k - b y_k
 pub record AreApartBelow (a : ℤ) (x : List ℤ) (b : ℤ) (y : List ℤ) (i : ℕ) (z : List ℤ) : Type 0 where

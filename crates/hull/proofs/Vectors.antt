@@ -7,7 +7,7 @@ use Rattle.std.proofs.lemmas.List.{take_all, get_or_default}
 use Rattle.std.proofs.lemmas.List.Elements.{All-weaker, All-head, All-tail}
 use Rattle.normal_bounds.proofs.Sizes.{point_absolute_sum_lem, difference_absolute_sum_lem}
 use Rattle.lattice_core.specs.Limits.{size_limit_of, IsSized}
-use Rattle.hull.specs.Kernels.{IsPrimitiveKernel, IsSmallKernel}
+use Rattle.hull.specs.steps.Kernels.{IsPrimitiveKernel, IsSmallKernel}
 use Rattle.lattice_core.proofs.SizeLimits.{limit_bound}
 use Rattle.hull.proofs.Pivots.{take_more}
 use Rattle.lattice_theory.specs.Vector.{entry, dot, HaveDimension, IsVectorMultiple}
@@ -17,7 +17,7 @@ use Rattle.lattice_theory.proofs.Integers.{products_out, linear}
 use Rattle.elimination.specs.Elimination.{Member, Annihilates}
 use Rattle.lattice_theory.proofs.Members.{Each, empty, more, each_from_all, all_from_each}
 use Rattle.lattice_theory.proofs.Vectors.{dot-scaled_left}
-use Rattle.hull.specs.Differences.{difference, differences}
+use Rattle.hull.specs.steps.Differences.{difference, differences}
 
 -- a difference is as long as the vectors
 pub length-difference : (p q : List ℤ) → length p ≡ length q → length (difference p q) ≡ length p

@@ -14,7 +14,7 @@ use Rattle.lattice_theory.proofs.Members.{Each, empty, more, each_from_all, all_
 use Rattle.facet_theory.specs.Solid.{AreSolid}
 use Rattle.facet_theory.proofs.Vertices.{vertices_by_facets_lem}
 use Rattle.normal_bounds.proofs.Numbers.{entries_fit_lem}
-use Rattle.hull.specs.Tight.{LiesWith, LiesAlone}
+use Rattle.hull.specs.steps.Tight.{LiesWith, LiesAlone}
 use Rattle.lattice_core.specs.Limits.{IsSized}
 use Rattle.lattice_core.proofs.SizeLimits.{limit_bound}
 use Rattle.hull.proofs.Pivots.{take_more}

@@ -2,8 +2,5 @@ pub mod Hyperplanes
 pub mod Bounded
 pub mod Faults
 pub mod Built
-pub mod Differences
-pub mod Kernels
-pub mod Search
-pub mod Tight
+pub mod steps
 pub mod Laws

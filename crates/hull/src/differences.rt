@@ -7,8 +7,8 @@ ghost use Rattle.lattice_theory.specs.Size.{size, absolute_sum};
 ghost use Rattle.lattice_core.specs.Limits.{size_limit_of};
 ghost use Rattle.lattice_core.specs.PointLists.{AreSizedPoints};
 ghost use Rattle.lattice_core.specs.Dimensions.{dimension_of};
-ghost use Rattle.hull.specs.Differences.{difference, differences};
-ghost use Rattle.hull.specs.Kernels.{IsPrimitiveKernel};
+ghost use Rattle.hull.specs.steps.Differences.{difference, differences};
+ghost use Rattle.hull.specs.steps.Kernels.{IsPrimitiveKernel};
 
 use crate::kernel::{kernel_of_none, kernel_with};
 use crate::member::KernelMember;

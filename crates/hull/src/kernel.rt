@@ -6,7 +6,7 @@ ghost use Rattle.lattice_theory.specs.Vector.{dot, IsPrimitive};
 ghost use Rattle.lattice_theory.specs.Size.{absolute_sum};
 ghost use Rattle.elimination.specs.Elimination.{Member, IsUnitMember};
 ghost use Rattle.lattice_core.specs.Limits.{size_limit_of};
-ghost use Rattle.hull.specs.Kernels.{IsPrimitiveKernel, IsSmallKernel, IsPivotAt, IsStepped};
+ghost use Rattle.hull.specs.steps.Kernels.{IsPrimitiveKernel, IsSmallKernel, IsPivotAt, IsStepped};
 
 use crate::member::KernelMember;
 use crate::reduction::{pairing, reduced};

@@ -4,7 +4,7 @@ ghost use Rattle.std.specs.Prelude.{◌≡◌, ℕ, ◌^◌, ◌*◌, ◌<◌, �
 ghost use Rattle.std.specs.List.{All};
 ghost use Rattle.lattice_theory.specs.Vector.{dot};
 ghost use Rattle.lattice_theory.specs.Size.{absolute_sum};
-ghost use Rattle.hull.specs.Kernels.{CanReduce, IsReducedBy, AreMultiplesApart};
+ghost use Rattle.hull.specs.steps.Kernels.{CanReduce, IsReducedBy, AreMultiplesApart};
 
 use crate::member::KernelMember;
 use arrayvec::ArrayVec;

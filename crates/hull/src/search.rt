@@ -7,7 +7,7 @@ ghost use Rattle.lattice_theory.specs.Affine.{Affine, IsNonnegative};
 ghost use Rattle.lattice_theory.specs.Facet.{IsFacet};
 ghost use Rattle.lattice_theory.specs.Size.{size, absolute_sum};
 ghost use Rattle.lattice_core.specs.Limits.{IsSized};
-ghost use Rattle.hull.specs.Search.{IsKernelOfPoints, IsReached, AddsFacets, IsSupporting, AddsEach};
+ghost use Rattle.hull.specs.steps.Search.{IsKernelOfPoints, IsReached, AddsFacets, IsSupporting, AddsEach};
 
 use crate::differences::point_difference;
 use crate::functions::{function_at, is_nonnegative_on, opposite};

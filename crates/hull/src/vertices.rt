@@ -11,7 +11,7 @@ ghost use Rattle.lattice_core.specs.Dimensions.{dimension_of};
 ghost use Rattle.lattice_core.specs.PointLists.{AreSolidPoints};
 ghost use Rattle.lattice_core.specs.Stops.{Stops};
 ghost use Rattle.hull.specs.Faults.{IsVerticesRefusal};
-ghost use Rattle.hull.specs.Tight.{LiesWith, LiesAlone};
+ghost use Rattle.hull.specs.steps.Tight.{LiesWith, LiesAlone};
 
 use lattice_core::{
     Fault, Functional, LimitName, MOST_VERTICES, NoMemory, Point, Refusal, ascending_points,

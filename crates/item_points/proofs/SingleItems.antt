@@ -11,7 +11,8 @@ use Rattle.lattice_core.specs.declared.faults.Refusal.{Refusal}
 use Rattle.lattice_core.specs.declared.faults.Refusal.TheVariants.{Limit}
 use Rattle.lattice_core.specs.declared.faults.LimitName.TheVariants.{Dim, Input, Size}
 use Rattle.palp_input.specs.Grammar.{Listed, ListedWeights, ListedPoints}
-use Rattle.weight_frame.specs.Frame.{largest, coordinate_limit}
+use Rattle.lattice_core.specs.declared.limits.TheConstants.{MOST_COORDINATE}
+use Rattle.weight_frame.specs.Frame.{largest}
 use Rattle.item_points.specs.Matrices.{AreMatrixPoints, HaveOtherDimension, IsMatrixRefusal, other_dimension, many_numbers}
 use Rattle.item_points.specs.Points.{HasPointsOfAnySize, HasPoints, HaveLargeCoordinate, HaveSmallCoordinates, IsToldSize, HasLargeSize}
 use Rattle.item_points.specs.Points.{IsInputRefusal, IsPointsRefusal, input, large_size}
@@ -62,7 +63,7 @@ large_or_sized item told points a h =
 
 large_or_small_coordinates : (points : List (List ℤ)) → HaveLargeCoordinate points → HaveSmallCoordinates points → ⊥
 large_or_small_coordinates points a h =
-    let small = All-contains (λ (p : List ℤ). largest p ≤ coordinate_limit) points a.point h a.member in
+    let small = All-contains (λ (p : List ℤ). largest p ≤ MOST_COORDINATE) points a.point h a.member in
     omega (arith, small, a.large)
 
 same_told_size : (item : Listed) (points : List (List ℤ)) (told other : ℕ) → IsToldSize item points told → IsToldSize item points other → told ≡ other

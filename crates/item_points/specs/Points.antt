@@ -8,7 +8,8 @@ use Rattle.lattice_core.specs.declared.faults.Refusal.{Refusal}
 use Rattle.lattice_core.specs.declared.faults.Refusal.TheVariants.{Limit}
 use Rattle.lattice_core.specs.declared.faults.LimitName.TheVariants.{Size}
 use Rattle.palp_input.specs.Grammar.{Listed, ListedWeights, ListedPoints}
-use Rattle.weight_frame.specs.Frame.{largest, coordinate_limit}
+use Rattle.lattice_core.specs.declared.limits.TheConstants.{MOST_COORDINATE}
+use Rattle.weight_frame.specs.Frame.{largest}
 use Rattle.lattice_core.specs.declared.limits.TheConstants.{MOST_COORDINATES}
 use Rattle.lattice_core.specs.PointLists.{AreSizedPoints}
 use Rattle.item_points.specs.Matrices.{AreMatrixPoints, IsMatrixRefusal}
@@ -28,17 +29,17 @@ pub record HasPoints (item : Listed) (points : List (List ℤ)) : Type 0 where
 pub record HaveLargeCoordinate (points : List (List ℤ)) : Type 0 where
   pub point : List ℤ
   pub member : Contains points point
-  pub large : coordinate_limit < largest point
+  pub large : MOST_COORDINATE < largest point
 
 -- no point has
 abbrev pub HaveSmallCoordinates : List (List ℤ) → Type 0
-HaveSmallCoordinates points = All (λ p. largest p ≤ coordinate_limit) points
+HaveSmallCoordinates points = All (λ p. largest p ≤ MOST_COORDINATE) points
 
 -- what is told of the size of an item's points: the size, but one more than the limit on coordinates where a point of a weight line has a
 -- coordinate above that limit
 abbrev pub IsToldSize : Listed → List (List ℤ) → ℕ → Type 0
 IsToldSize (ListedWeights systems) points told =
-    (HaveLargeCoordinate points × (told ≡ coordinate_limit + 1)) ⊎ (HaveSmallCoordinates points × (told ≡ size (dimension_of points) points))
+    (HaveLargeCoordinate points × (told ≡ MOST_COORDINATE + 1)) ⊎ (HaveSmallCoordinates points × (told ≡ size (dimension_of points) points))
 IsToldSize (ListedPoints lines columns entries) points told = told ≡ size (dimension_of points) points
 
 -- the size of the item's points is above the limit

@@ -7,9 +7,11 @@ use Rattle.lattice_core.specs.declared.faults.Refusal.{Refusal}
 use Rattle.lattice_core.specs.declared.faults.Refusal.TheVariants.{Limit}
 use Rattle.lattice_core.specs.declared.faults.LimitName.TheVariants.{Frame, Dim, Monomials, Size}
 use Rattle.weight_points.proofs.Collecting.{same_monomials}
-use Rattle.weight_frame.specs.Frame.{largest, entry_limit, coordinate_limit, AreWithinEntryLimit, IsFirstAboveLimit}
+use Rattle.lattice_core.specs.declared.limits.TheConstants.{MOST_FRAME_ENTRY}
+use Rattle.lattice_core.specs.declared.limits.TheConstants.{MOST_COORDINATE}
+use Rattle.weight_frame.specs.Frame.{largest, AreWithinEntryLimit, IsFirstAboveLimit}
 use Rattle.weight_frame.specs.Answers.{ExceedsEntryLimit, IsFrameWithinLimit, HasOtherDimension}
-use Rattle.weight_frame.specs.Laws.{IsIntegerBasis}
+use Rattle.weight_frame.specs.Bases.{IsIntegerBasis}
 use Rattle.weight_frame.proofs.Frames.{frame_is_unique, frame_is_basis, not_exceeding, not_other_dimension}
 use Rattle.palp_engine.specs.WeightLines.{numbers_refusal, HasFrame, HaveCoordinates}
 use Rattle.palp_engine.specs.WeightLines.{AreFramePoints, AreWeightPoints, HaveManyMonomials, HaveLargePoint}
@@ -85,25 +87,25 @@ abbrev behind_first : List (List ℤ) → List (List ℤ)
 behind_first [] = []
 behind_first (x ∷ xs) = xs
 
-above_and_within : (x y : List ℤ) → x ≡ y → entry_limit < largest x → largest y ≤ entry_limit → ⊥
+above_and_within : (x y : List ℤ) → x ≡ y → MOST_FRAME_ENTRY < largest x → largest y ≤ MOST_FRAME_ENTRY → ⊥
 above_and_within x y e above within = let same = ap largest e in omega (arith, same, above, within)
 
 same_first_above : (before further behind others : List (List ℤ)) (x y : List ℤ) → before ++ (x ∷ behind) ≡ further ++ (y ∷ others)
-    → AreWithinEntryLimit before → AreWithinEntryLimit further → entry_limit < largest x → entry_limit < largest y → x ≡ y
+    → AreWithinEntryLimit before → AreWithinEntryLimit further → MOST_FRAME_ENTRY < largest x → MOST_FRAME_ENTRY < largest y → x ≡ y
 same_first_above [] [] behind others x y e w v a b = ap first_vector e
 same_first_above [] (z ∷ further) behind others x y e w v a b =
-    absurd (above_and_within x z (ap first_vector e) a (All-head (λ (u : List ℤ). largest u ≤ entry_limit) z further v))
+    absurd (above_and_within x z (ap first_vector e) a (All-head (λ (u : List ℤ). largest u ≤ MOST_FRAME_ENTRY) z further v))
 same_first_above (z ∷ before) [] behind others x y e w v a b =
-    absurd (above_and_within y z (sym (ap first_vector e)) b (All-head (λ (u : List ℤ). largest u ≤ entry_limit) z before w))
+    absurd (above_and_within y z (sym (ap first_vector e)) b (All-head (λ (u : List ℤ). largest u ≤ MOST_FRAME_ENTRY) z before w))
 same_first_above (z ∷ before) (u ∷ further) behind others x y e w v a b =
     same_first_above before further behind others x y (ap behind_first e)
-    (All-tail (λ (u : List ℤ). largest u ≤ entry_limit) z before w) (All-tail (λ (u : List ℤ). largest u ≤ entry_limit) u further v) a b
+    (All-tail (λ (u : List ℤ). largest u ≤ MOST_FRAME_ENTRY) z before w) (All-tail (λ (u : List ℤ). largest u ≤ MOST_FRAME_ENTRY) u further v) a b
 
 told_above : (vectors others : List (List ℤ)) (told other : ℕ) → vectors ≡ others → IsFirstAboveLimit vectors told → IsFirstAboveLimit others other
     → told ≡ other
 told_above vectors others told other e a b =
-    let above_a = subst (λ (k : ℕ). entry_limit < k) a.value a.above in
-    let above_b = subst (λ (k : ℕ). entry_limit < k) b.value b.above in
+    let above_a = subst (λ (k : ℕ). MOST_FRAME_ENTRY < k) a.value a.above in
+    let above_b = subst (λ (k : ℕ). MOST_FRAME_ENTRY < k) b.value b.above in
     let split = sym a.split ∙ (e ∙ b.split) in
     let same = same_first_above a.before b.before a.behind b.behind a.vector b.vector split a.within b.within above_a above_b in
     a.value ∙ (ap largest same ∙ sym b.value)
@@ -133,7 +135,7 @@ large_or_small_points : (systems : List Weighted) (told n : ℕ) (points : List 
 large_or_small_points systems told n points x h =
     let same = (same_frame_points systems x.n n x.points points x.are_points h.are_points).same_points in
     let member = subst (λ (xs : List (List ℤ)). Contains xs x.point) same x.member in
-    let small = All-contains (λ (p : List ℤ). largest p ≤ coordinate_limit) points x.point h.small member in
+    let small = All-contains (λ (p : List ℤ). largest p ≤ MOST_COORDINATE) points x.point h.small member in
     omega (arith, small, x.large)
 
 -- a weight line that is refused before the hull of its points hasn't such points

@@ -16,8 +16,9 @@ use Rattle.lattice_theory.proofs.Members.{each_from_all, all_from_each, In, here
 use Rattle.weight_points.specs.Members.{Walked, AreMonomials, IsMonomialAt, HasMonomials, AreFirst}
 use Rattle.weight_points.proofs.Collecting.{none_are_first, first_and_next, first_are_all}
 use Rattle.weight_points.proofs.Entries.{exponents_small}
+use Rattle.lattice_core.specs.declared.limits.TheConstants.{MOST_COORDINATE}
 use Rattle.weight_frame.specs.Answers.{IsFrameWithinLimit, IsFrameFault, IsHandedOut, HasCoordinates, HasLargeCoordinate}
-use Rattle.weight_frame.specs.Frame.{AreCoordinates, largest, coordinate_limit}
+use Rattle.weight_frame.specs.Frame.{AreCoordinates, largest}
 use Rattle.weight_frame.proofs.Frames.{frame_coordinates}
 use Rattle.lattice_core.specs.declared.faults.Fault.{Fault}
 use Rattle.weight_frame.specs.declared.frame.FrameFault.{FrameFault}
@@ -174,7 +175,7 @@ pub record IsUnderWay (systems : List Weighted) (vectors : List (List ℤ)) (cou
   pub first : AreFirst systems count members
   pub few : count ≤ 16_384
   pub seen : AreSeen large systems vectors members points
-  pub small : Each (λ p. largest p ≤ coordinate_limit) points
+  pub small : Each (λ p. largest p ≤ MOST_COORDINATE) points
 
 pub under_way : (systems : List Weighted) (vectors : List (List ℤ)) → AreWellFormed systems → AreWithinLimits systems
     → IsUnderWay systems vectors 0 false []
@@ -215,7 +216,7 @@ seen_more false systems vectors members points a p seen k = have_push (columns_o
 
 pub point_more : (systems : List Weighted) (vectors : List (List ℤ)) (count : ℕ) (large : Bool) (points : List (List ℤ)) (a p : List ℤ)
     → IsUnderWay systems vectors count large points → count < 16_384 → IsMonomialAt systems count a
-    → HasCoordinates (record { systems = systems; vectors = vectors }) (monomial_point a) p → largest p ≤ coordinate_limit
+    → HasCoordinates (record { systems = systems; vectors = vectors }) (monomial_point a) p → largest p ≤ MOST_COORDINATE
     → IsUnderWay systems vectors (count + 1) large (points ++ p ∷ [])
 point_more systems vectors count large points a p way few m h k = record {
   members = way.members ++ a ∷ [];
@@ -274,16 +275,16 @@ pub walk_points : (systems : List Weighted) (vectors points : List (List ℤ)) (
     → AreWeightPoints systems (length vectors) points
 walk_points systems vectors points count numbers frame way all = record {
   are_points = framed_points systems vectors way.members points count numbers frame way.first way.few all way.seen;
-  small = all_from_each {P = λ p. largest p ≤ coordinate_limit} way.small;
+  small = all_from_each {P = λ p. largest p ≤ MOST_COORDINATE} way.small;
 }
 
 -- the coordinates of a vector with a large coordinate
 large_coordinates : (systems : List Weighted) (vectors : List (List ℤ)) (x p : List ℤ) → IsFrameWithinLimit systems vectors
-    → HasLargeCoordinate (record { systems = systems; vectors = vectors }) x → AreCoordinates (columns_of systems) vectors x p → coordinate_limit < largest p
+    → HasLargeCoordinate (record { systems = systems; vectors = vectors }) x → AreCoordinates (columns_of systems) vectors x p → MOST_COORDINATE < largest p
 large_coordinates systems vectors x p frame large k =
     let one = frame_coordinates systems vectors x frame large.are_coordinates.inside in
     let same = one.only large.coordinates large.are_coordinates.are_coordinates ∙ sym (one.only p k) in
-    subst (λ y. coordinate_limit < largest y) same large.large
+    subst (λ y. MOST_COORDINATE < largest y) same large.large
 
 -- the walk has ended, and a coordinate was large
 pub large_point_met : (systems : List Weighted) (vectors points : List (List ℤ)) (count : ℕ) → numbers_refusal systems ≡ None

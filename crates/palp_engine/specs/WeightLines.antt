@@ -6,7 +6,8 @@ use Rattle.lattice_core.specs.declared.faults.Refusal.{Refusal}
 use Rattle.lattice_core.specs.declared.faults.Refusal.TheVariants.{Limit}
 use Rattle.lattice_core.specs.declared.faults.LimitName.TheVariants.{Systems, Weights, Degree, DegreeProduct, Frame, Dim, Monomials, Size}
 use Rattle.weight_points.specs.Members.{AreMonomials}
-use Rattle.weight_frame.specs.Frame.{AreCoordinates, largest, coordinate_limit}
+use Rattle.lattice_core.specs.declared.limits.TheConstants.{MOST_COORDINATE}
+use Rattle.weight_frame.specs.Frame.{AreCoordinates, largest}
 use Rattle.weight_frame.specs.Answers.{ExceedsEntryLimit, IsFrameWithinLimit, HasOtherDimension}
 use Rattle.palp_engine.specs.Limits.{most_systems, most_weights, most_degree, most_degree_product, most_coordinates, most_monomials}
 
@@ -55,7 +56,7 @@ pub record AreFramePoints (systems : List Weighted) (n : ℕ) (points : List (Li
 -- and no coordinate is above the limit on coordinates
 pub record AreWeightPoints (systems : List Weighted) (n : ℕ) (points : List (List ℤ)) : Type 0 where
   pub are_points : AreFramePoints systems n points
-  pub small : All (λ p. largest p ≤ coordinate_limit) points
+  pub small : All (λ p. largest p ≤ MOST_COORDINATE) points
 
 -- there are too many exponent vectors: one more than the limit is told
 pub record HaveManyMonomials (systems : List Weighted) (told : ℕ) : Type 0 where
@@ -72,8 +73,8 @@ pub record HaveLargePoint (systems : List Weighted) (told : ℕ) : Type 0 where
   pub are_points : AreFramePoints systems n points
   pub point : List ℤ
   pub member : Contains points point
-  pub large : coordinate_limit < largest point
-  pub told_is : told ≡ coordinate_limit + 1
+  pub large : MOST_COORDINATE < largest point
+  pub told_is : told ≡ MOST_COORDINATE + 1
 
 -- why a weight line is refused before its points' hull: a number of the line, an entry in the frame's recursion, the dimension, the number of
 -- exponent vectors, a coordinate. Each is asked where those before it hold.

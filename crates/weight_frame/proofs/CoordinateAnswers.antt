@@ -1,8 +1,9 @@
 -- What is answered of a vector of the lattice.
 use Rattle.std.proofs.Common.{◌≡◌, ◌≤◌, ℕ, List, length, ℤ, sym, ◌∙◌, subst}
 use Rattle.lattice_core.specs.Weights.{columns_of, IsInLattice}
-use Rattle.weight_frame.specs.Frame.{AreCoordinates, largest, coordinate_limit}
-use Rattle.weight_frame.specs.Places.{AreFound, IsLargeSomewhere}
+use Rattle.lattice_core.specs.declared.limits.TheConstants.{MOST_COORDINATE}
+use Rattle.weight_frame.specs.Frame.{AreCoordinates, largest}
+use Rattle.weight_frame.specs.steps.Places.{AreFound, IsLargeSomewhere}
 use Rattle.weight_frame.specs.Answers.{Framed, IsFrameWithinLimit, HasCoordinates, HasLargeCoordinate}
 use Rattle.weight_frame.proofs.Frames.{frame_coordinates}
 
@@ -20,7 +21,7 @@ large_answer f x frame inside e large = let one = frame_coordinates f.systems f.
 
 -- all of them are found
 pub at_answer : (f : Framed) (x found y : List ℤ) → IsFrameWithinLimit f.systems f.vectors → IsInLattice f.systems x → length x ≡ columns_of f.systems → AreFound f.vectors x found → y ≡ found
-    → HasCoordinates f x y × (largest y ≤ coordinate_limit)
+    → HasCoordinates f x y × (largest y ≤ MOST_COORDINATE)
 at_answer f x found y frame inside e are same =
     let one = frame_coordinates f.systems f.vectors x frame inside in
     let found_is = are.same one.coefficients (in_columns (length x) (columns_of f.systems) f.vectors x one.coefficients e one.are_coordinates) in

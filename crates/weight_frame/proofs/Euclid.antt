@@ -11,7 +11,7 @@ use Rattle.lattice_theory.proofs.Integers.{products_out, linear, *ℤ_comm, minu
 use Rattle.lattice_core.proofs.CommonDivisors.{exact_quotient}
 use Rattle.lattice_theory.proofs.Divisibility.{divides_sum, divides_multiple}
 use Rattle.weight_frame.specs.Frame.{AreLeastMultipliers, IsGreatestDivisor}
-use Rattle.weight_frame.specs.Euclid.{IsCongruent, IsBezout}
+use Rattle.weight_frame.specs.steps.Euclid.{IsCongruent, IsBezout}
 use Rattle.weight_frame.proofs.Bounds.{product_bound}
 use Rattle.weight_frame.proofs.Divisors.{greatest_more, least_combination, pos_product, negative_rest}
 

@@ -11,9 +11,11 @@ use Rattle.lattice_theory.proofs.Integers.{products_out, linear, cancel_left, po
 use Rattle.lattice_core.proofs.CommonDivisors.{exact_quotient}
 use Rattle.lattice_theory.proofs.Members.{more, each_from_all}
 use Rattle.lattice_theory.proofs.Vectors.{entry_past, zero_from_entries, entries_from_zero}
-use Rattle.weight_frame.specs.Frame.{IsIntegerCombination, AreCoordinates, largest, coordinate_limit, entry_limit, AreWithinEntryLimit}
-use Rattle.weight_frame.specs.Echelon.{LeadsAt, Leads, no_more, leads}
-use Rattle.weight_frame.specs.Places.{IsFirstPlace, IsNextCoordinate, AreFound, IsLargeSomewhere}
+use Rattle.lattice_core.specs.declared.limits.TheConstants.{MOST_FRAME_ENTRY}
+use Rattle.lattice_core.specs.declared.limits.TheConstants.{MOST_COORDINATE}
+use Rattle.weight_frame.specs.Frame.{IsIntegerCombination, AreCoordinates, largest, AreWithinEntryLimit}
+use Rattle.weight_frame.specs.steps.Echelon.{LeadsAt, Leads, no_more, leads}
+use Rattle.weight_frame.specs.steps.Places.{IsFirstPlace, IsNextCoordinate, AreFound, IsLargeSomewhere}
 use Rattle.weight_frame.proofs.Largest.{entry_at_most}
 use Rattle.weight_frame.proofs.Steps.{AreSized}
 use Rattle.weight_frame.proofs.Leads.{column, zero_column, leads_zero}
@@ -122,9 +124,9 @@ pub combined_fits : (s p : ℤ) (j : ℕ) → j < 6 → nat_abs s ≤ 2 ^ 95 * j
 combined_fits s p j l h k = fits_signed_from_abs w128 (s +ℤ p) (omega (arith, ints))
 
 -- an entry of a vector of the list
-pub vector_small : (us : List (List ℤ)) (j p : ℕ) (b : List ℤ) → AreWithinEntryLimit us → j < length us → b ≡ get_or us j b → nat_abs (entry b p) ≤ entry_limit
+pub vector_small : (us : List (List ℤ)) (j p : ℕ) (b : List ℤ) → AreWithinEntryLimit us → j < length us → b ≡ get_or us j b → nat_abs (entry b p) ≤ MOST_FRAME_ENTRY
 vector_small us j p b h k e =
-    let l : largest b ≤ entry_limit = subst (λ (v : List ℤ). largest v ≤ entry_limit) (sym e) (h j b k) in
+    let l : largest b ≤ MOST_FRAME_ENTRY = subst (λ (v : List ℤ). largest v ≤ MOST_FRAME_ENTRY) (sym e) (h j b k) in
     let m = entry_at_most b p in
     omega arith
 
@@ -138,7 +140,7 @@ all_long n p us h k = λ j d l. let e = k j d l in omega arith
 -- the coordinates so far
 pub record AreFoundBelow (us : List (List ℤ)) (x : List ℤ) (i : ℕ) (found : List ℤ) : Type 0 where
   pub count : length found ≡ i
-  pub within : largest found ≤ coordinate_limit
+  pub within : largest found ≤ MOST_COORDINATE
   pub same : (c : List ℤ) → AreCoordinates (length x) us x c → take i c ≡ found
 
 pub found_none : (us : List (List ℤ)) (x found : List ℤ) → found ≡ [] → AreFoundBelow us x 0 found
@@ -148,10 +150,10 @@ largest_push : (x : List ℤ) (a : ℤ) (m : ℕ) → largest x ≤ m → nat_ab
 largest_push [] a m h k = omega arith
 largest_push (b ∷ x) a m h k = let l = largest_push x a m (omega arith) k in omega arith
 
-pub found_more : (us : List (List ℤ)) (x found new : List ℤ) (i : ℕ) (a : ℤ) → i < length us → AreFoundBelow us x i found → IsNextCoordinate us x found a → nat_abs a ≤ coordinate_limit → new ≡ found ++ (a ∷ []) → AreFoundBelow us x (i + 1) new
+pub found_more : (us : List (List ℤ)) (x found new : List ℤ) (i : ℕ) (a : ℤ) → i < length us → AreFoundBelow us x i found → IsNextCoordinate us x found a → nat_abs a ≤ MOST_COORDINATE → new ≡ found ++ (a ∷ []) → AreFoundBelow us x (i + 1) new
 found_more us x found new i a h f n small e = record {
   count = ap length e ∙ length_push found a ∙ ap (λ (k : ℕ). k + 1) f.count;
-  within = rw e (largest_push found a coordinate_limit f.within small);
+  within = rw e (largest_push found a MOST_COORDINATE f.within small);
   same = λ c k.
       let taken = f.same c k in
       let value : a ≡ entry c i = rw f.count at (n c k (ap (λ (j : ℕ). take j c) f.count ∙ taken)) in
@@ -166,10 +168,10 @@ found_all us x found i e f = record {
 }
 
 -- one that is too large
-pub found_large : (us : List (List ℤ)) (x found : List ℤ) (i : ℕ) (a : ℤ) → AreFoundBelow us x i found → IsNextCoordinate us x found a → coordinate_limit < nat_abs a → IsLargeSomewhere us x
+pub found_large : (us : List (List ℤ)) (x found : List ℤ) (i : ℕ) (a : ℤ) → AreFoundBelow us x i found → IsNextCoordinate us x found a → MOST_COORDINATE < nat_abs a → IsLargeSomewhere us x
 found_large us x found i a f n large c k =
     let value = n c k (ap (λ (j : ℕ). take j c) f.count ∙ f.same c k) in
-    let l : coordinate_limit < nat_abs (entry c (length found)) = rw value at large in
+    let l : MOST_COORDINATE < nat_abs (entry c (length found)) = rw value at large in
     let m = entry_at_most c (length found) in
     omega arith
 

@@ -4,14 +4,16 @@ use Rattle.lattice_theory.specs.Vector.{entry, dot}
 use Rattle.lattice_theory.proofs.Integers.{products_out, linear, zero_or_not, factor_zero, *ℤ_comm}
 use Rattle.lattice_core.specs.Weights.{Weighted, weighted_degree, columns_of, IsInLattice}
 use Rattle.lattice_theory.proofs.Members.{Each, empty, more, each_head, each_tail, each_left, each_right, each_append, each_weaker, each_from_all, all_from_each}
-use Rattle.weight_frame.specs.Frame.{IsSumOfMultiples, Exchanges, none, more as one_more, AreExchanged, done, next, IsRecursion, IsIntegerCombination, AreCoordinates, largest, entry_limit, AreWithinEntryLimit, IsFirstAboveLimit}
-use Rattle.weight_frame.specs.Reached.{AreSmallVectors}
+use Rattle.lattice_core.specs.declared.limits.TheConstants.{MOST_FRAME_ENTRY}
+use Rattle.weight_frame.specs.Frame.{IsSumOfMultiples, Exchanges, none, more as one_more, AreExchanged, done, next, IsRecursion, IsIntegerCombination, AreCoordinates, largest, AreWithinEntryLimit, IsFirstAboveLimit}
+use Rattle.weight_frame.specs.steps.Reached.{AreSmallVectors}
 use Rattle.weight_frame.specs.Answers.{IsFrameWithinLimit, ExceedsEntryLimit, HasOtherDimension}
-use Rattle.weight_frame.specs.Laws.{FrameExists, FrameIsUnique, FrameIsBasis, HasOneCombination}
+use Rattle.weight_frame.specs.Laws.{FrameExists, FrameIsUnique, FrameIsBasis}
+use Rattle.weight_frame.specs.Bases.{HasOneCombination}
 use Rattle.weight_frame.proofs.Sums.{sum_pairs}
 use Rattle.weight_frame.proofs.Steps.{AreSized}
 use Rattle.weight_frame.proofs.Recursion.{recursion_lengths, recursion_values, recursion_keeps, recursion_zero, recursion_exists, recursion_unique, same_append}
-use Rattle.weight_frame.specs.Echelon.{Leads}
+use Rattle.weight_frame.specs.steps.Echelon.{Leads}
 use Rattle.weight_frame.proofs.Leads.{column, recursion_leads, coefficients_unique}
 use Rattle.weight_frame.proofs.Spans.{Splits, recursion_splits, combination_exists, combination_pairs, zero_values}
 use Rattle.weight_frame.proofs.Units.{unit_vectors_sized, unit_vectors_lead, unit_vectors_small, unit_vectors_span, unit_vectors_unique, unit_vectors_exist}
@@ -166,8 +168,8 @@ frame_is_unique systems vectors made others others_made r s = let e = recursion_
 first_above : (made others : List (List ℤ)) (told : ℕ) → made ≡ others → AreWithinEntryLimit made → IsFirstAboveLimit others told → ⊥
 first_above made others told e within first =
     let h : AreWithinEntryLimit (first.before ++ (first.vector ∷ first.behind)) = rw (e, first.split) at within in
-    let small = each_head (each_right first.before (first.vector ∷ first.behind) (each_from_all (λ x. largest x ≤ entry_limit) (first.before ++ (first.vector ∷ first.behind)) h)) in
-    above_twice (largest first.vector) entry_limit told first.value small first.above
+    let small = each_head (each_right first.before (first.vector ∷ first.behind) (each_from_all (λ x. largest x ≤ MOST_FRAME_ENTRY) (first.before ++ (first.vector ∷ first.behind)) h)) in
+    above_twice (largest first.vector) MOST_FRAME_ENTRY told first.value small first.above
   where
     above_twice : (a m t : ℕ) → t ≡ a → a ≤ m → m < t → ⊥
     above_twice a m t e h k = omega arith
@@ -199,7 +201,7 @@ frame_small systems vectors f =
     let r = f.recursion in
     record {
       dimension = all_from_each {P = λ x. length x ≡ n} (frame_sized systems vectors f.made r);
-      within = all_from_each {P = λ x. largest x ≤ entry_limit} (exchanged_within (λ x. largest x ≤ entry_limit) n systems r.units vectors f.made (unit_vectors_small n r.units r.are_units) (each_from_all (λ x. largest x ≤ entry_limit) f.made f.within) r.exchanged);
+      within = all_from_each {P = λ x. largest x ≤ MOST_FRAME_ENTRY} (exchanged_within (λ x. largest x ≤ MOST_FRAME_ENTRY) n systems r.units vectors f.made (unit_vectors_small n r.units r.are_units) (each_from_all (λ x. largest x ≤ MOST_FRAME_ENTRY) f.made f.within) r.exchanged);
     }
 
 pub frame_coordinates : (systems : List Weighted) (vectors : List (List ℤ)) (x : List ℤ) → IsFrameWithinLimit systems vectors → IsInLattice systems x → HasOneCombination (columns_of systems) vectors x

@@ -5,7 +5,8 @@ use Rattle.lattice_theory.proofs.Vectors.{entry_past}
 use Rattle.std.proofs.lemmas.Int.{ints, fits_signed_from_abs}
 use Rattle.std.proofs.lemmas.List.{drop_more, drop_all, take_more, map-append}
 use Rattle.lattice_theory.specs.Vector.{entry, scaled, IsUnitVector}
-use Rattle.weight_frame.specs.Frame.{IsZeroVector, largest, entry_limit}
+use Rattle.lattice_core.specs.declared.limits.TheConstants.{MOST_FRAME_ENTRY}
+use Rattle.weight_frame.specs.Frame.{IsZeroVector, largest}
 
 -- it is reached or passed by no entry
 pub entry_at_most : (x : List ℤ) (i : ℕ) → nat_abs (entry x i) ≤ largest x
@@ -43,11 +44,11 @@ one_abs : (a : ℤ) (m : ℕ) → 1 ≤ m → a ≡ pos 1 → nat_abs a ≤ m
 one_abs a m h e = omega (arith, ints)
 
 -- the zero vector and the unit vectors are within the limit
-pub zero_small : (n : ℕ) (x : List ℤ) → IsZeroVector n x → largest x ≤ entry_limit
-zero_small n x h = largest_at_most x entry_limit (λ i. zero_abs (entry x i) entry_limit (h.zeros i))
+pub zero_small : (n : ℕ) (x : List ℤ) → IsZeroVector n x → largest x ≤ MOST_FRAME_ENTRY
+zero_small n x h = largest_at_most x MOST_FRAME_ENTRY (λ i. zero_abs (entry x i) MOST_FRAME_ENTRY (h.zeros i))
 
-pub unit_small : (n i : ℕ) (x : List ℤ) → IsUnitVector n i x → largest x ≤ entry_limit
-unit_small n i x h = largest_at_most x entry_limit (λ j. ⊎_elim (λ (e : j ≡ i). rw e (one_abs (entry x i) entry_limit (omega arith) h.one)) (λ (d : j ≢ i). zero_abs (entry x j) entry_limit (h.zeros j d)) (cases_eq j i))
+pub unit_small : (n i : ℕ) (x : List ℤ) → IsUnitVector n i x → largest x ≤ MOST_FRAME_ENTRY
+unit_small n i x h = largest_at_most x MOST_FRAME_ENTRY (λ j. ⊎_elim (λ (e : j ≡ i). rw e (one_abs (entry x i) MOST_FRAME_ENTRY (omega arith) h.one)) (λ (d : j ≢ i). zero_abs (entry x j) MOST_FRAME_ENTRY (h.zeros j d)) (cases_eq j i))
 
 -- one entry of the opposite vector
 opposite_entry : (a r : ℤ) → r ≡ pos 0 -ℤ a → r ≡ negsuc 0 *ℤ a
@@ -57,7 +58,7 @@ pub opposite_more : (x old new : List ℤ) (i : ℕ) (r : ℤ) → i < length x 
 opposite_more x old new i r h e n b = n ∙ ap₂ (λ (u : List ℤ) (a : ℤ). u ++ (a ∷ [])) b (opposite_entry (entry x i) r e) ∙ sym (ap (scaled (negsuc 0)) (take_more x i (pos 0) h) ∙ map-append (λ (a : ℤ). negsuc 0 *ℤ a) (take i x) (entry x i ∷ []))
 
 -- it fits 64 bits
-pub opposite_fits : (x : List ℤ) (i : ℕ) → largest x ≤ entry_limit → SFits w64 (pos 0 -ℤ entry x i)
+pub opposite_fits : (x : List ℤ) (i : ℕ) → largest x ≤ MOST_FRAME_ENTRY → SFits w64 (pos 0 -ℤ entry x i)
 opposite_fits x i h = let k = entry_at_most x i in fits_signed_from_abs w64 (pos 0 -ℤ entry x i) (omega (arith, ints))
 
 -- a bound on each entry bounds the largest

@@ -5,7 +5,7 @@ use Rattle.lattice_theory.specs.Vector.{entry, dot}
 use Rattle.lattice_theory.proofs.Integers.{products_out, linear, product_positive, positive_pos, positive_nonzero, cancel_left, *ℤ-zero, *ℤ_comm}
 use Rattle.lattice_core.specs.Weights.{Weighted, weighted_degree}
 use Rattle.lattice_theory.proofs.Vectors.{entry-scaled}
-use Rattle.weight_frame.specs.Echelon.{IsZeroBelow, LeadsAt, Leads, no_more, leads}
+use Rattle.weight_frame.specs.steps.Echelon.{IsZeroBelow, LeadsAt, Leads, no_more, leads}
 use Rattle.weight_frame.specs.Frame.{Exchange, keeps, takes, turns, exchanges, Exchanges, none, more}
 use Rattle.weight_frame.proofs.Euclid.{positive_part}
 

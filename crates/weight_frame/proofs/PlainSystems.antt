@@ -5,7 +5,7 @@ use borrow.Author.Tests.{ltb-true}
 use Rattle.std.proofs.Math.Nat.{mul-le-mul}
 use Rattle.lattice_theory.proofs.Members.{Each, empty, more, all_from_each}
 use Rattle.lattice_core.specs.Weights.{Weighted, total, IsSummed, AreWellFormed, AreWithinLimits}
-use Rattle.weight_frame.specs.Plain.{are_positive, is_summed, is_plain}
+use Rattle.weight_frame.specs.steps.Plain.{are_positive, is_summed, is_plain}
 
 -- a summed system
 pub record IsSmallSystem (n degree : ℕ) (weights : List ℕ) : Type 0 where

@@ -3,8 +3,9 @@ use Rattle.std.proofs.Common.{◌≡◌, ℕ, zero, suc, ◌+◌, ◌<◌, ◌�
 use Rattle.std.proofs.lemmas.List.{drop_more}
 use Rattle.lattice_core.specs.Weights.{Weighted, weighted_degree, columns_of}
 use Rattle.lattice_theory.proofs.Members.{empty, each_from_all, all_from_each, each_append, each_tail, each_head}
-use Rattle.weight_frame.specs.Frame.{IsZeroVector, AreUnitVectors, degrees_of, Exchange, keeps, takes, turns, exchanges, none, more as one_more, AreExchanged, done, next, largest, entry_limit, AreWithinEntryLimit, IsFirstAboveLimit}
-use Rattle.weight_frame.specs.Reached.{AreSmallVectors, IsStep, IsStepAbove, IsReached, IsAbove, AreReached}
+use Rattle.lattice_core.specs.declared.limits.TheConstants.{MOST_FRAME_ENTRY}
+use Rattle.weight_frame.specs.Frame.{IsZeroVector, AreUnitVectors, degrees_of, Exchange, keeps, takes, turns, exchanges, none, more as one_more, AreExchanged, done, next, largest, AreWithinEntryLimit, IsFirstAboveLimit}
+use Rattle.weight_frame.specs.steps.Reached.{AreSmallVectors, IsStep, IsStepAbove, IsReached, IsAbove, AreReached}
 use Rattle.weight_frame.specs.Answers.{IsFrameWithinLimit, ExceedsEntryLimit}
 use Rattle.weight_frame.proofs.Steps.{AreSized, step_lengths}
 use Rattle.weight_frame.proofs.StepAnswers.{within_one, within_none}
@@ -14,7 +15,7 @@ use Rattle.weight_frame.proofs.Frames.{exchanged_exists}
 
 -- vectors within the limit
 pub within_append : (xs ys : List (List ℤ)) → AreWithinEntryLimit xs → AreWithinEntryLimit ys → AreWithinEntryLimit (xs ++ ys)
-within_append xs ys h k = all_from_each {P = λ x. largest x ≤ entry_limit} (each_append (each_from_all (λ x. largest x ≤ entry_limit) xs h) (each_from_all (λ x. largest x ≤ entry_limit) ys k))
+within_append xs ys h k = all_from_each {P = λ x. largest x ≤ MOST_FRAME_ENTRY} (each_append (each_from_all (λ x. largest x ≤ MOST_FRAME_ENTRY) xs h) (each_from_all (λ x. largest x ≤ MOST_FRAME_ENTRY) ys k))
 
 -- the first vector above the limit
 pub first_behind : (xs ys : List (List ℤ)) (told : ℕ) → AreWithinEntryLimit xs → IsFirstAboveLimit ys told → IsFirstAboveLimit (xs ++ ys) told
@@ -54,7 +55,7 @@ one_kept n u v h after g _ _ (turns a b) = omega arith
 one_kept n u v h after g _ _ (exchanges p q s t a b i j) = omega arith
 
 -- before the first step
-pub reached_none : (n : ℕ) (system : Weighted) (h : List ℤ) → IsZeroVector n h → largest h ≤ entry_limit → IsReached n system [] [] h 0
+pub reached_none : (n : ℕ) (system : Weighted) (h : List ℤ) → IsZeroVector n h → largest h ≤ MOST_FRAME_ENTRY → IsReached n system [] [] h 0
 reached_none n system h z l = record {
   made = [];
   exchanged = none z;
@@ -124,7 +125,7 @@ units_reached n vectors u = record {
   within = within_none;
   small = record {
     dimension = all_from_each {P = λ x. length x ≡ n} (unit_vectors_sized n vectors u);
-    within = all_from_each {P = λ x. largest x ≤ entry_limit} (unit_vectors_small n vectors u);
+    within = all_from_each {P = λ x. largest x ≤ MOST_FRAME_ENTRY} (unit_vectors_small n vectors u);
   };
   count = let c = u.count in omega arith;
 }
@@ -177,12 +178,12 @@ reached_all systems done_with vectors e a = record {
 -- a vector of the list
 pub record IsSmallVector (n : ℕ) (u : List ℤ) : Type 0 where
   pub dimension : length u ≡ n
-  pub within : largest u ≤ entry_limit
+  pub within : largest u ≤ MOST_FRAME_ENTRY
 
 pub vector_at : (n : ℕ) (us : List (List ℤ)) (i : ℕ) (u : List ℤ) → AreSmallVectors n us → i < length us → u ≡ get_or us i u → IsSmallVector n u
 vector_at n us i u s h e = record {
   dimension = ap length e ∙ s.dimension i u h;
-  within = subst (λ (x : List ℤ). largest x ≤ entry_limit) (sym e) (s.within i u h);
+  within = subst (λ (x : List ℤ). largest x ≤ MOST_FRAME_ENTRY) (sym e) (s.within i u h);
 }
 
 at_place : (us : List (List ℤ)) (i : ℕ) (u : List ℤ) → i < length us → u ≡ get_or us i u → drop i us ≡ u ∷ drop (i + 1) us

@@ -8,19 +8,20 @@ use Rattle.lattice_theory.proofs.Integers.{linear}
 use Rattle.lattice_theory.specs.Vector.{scaled}
 use Rattle.lattice_theory.proofs.Members.{empty, more, all_from_each}
 use Rattle.lattice_theory.proofs.Vectors.{combined}
-use Rattle.weight_frame.specs.Frame.{IsZeroVector, IsGreatestDivisor, AreLeastMultipliers, Exchange, keeps, takes, turns, exchanges, largest, entry_limit, AreWithinEntryLimit}
-use Rattle.weight_frame.specs.Sums.{IsSmallSum, IsLargeSum}
-use Rattle.weight_frame.specs.Reached.{IsStep, IsStepAbove}
+use Rattle.lattice_core.specs.declared.limits.TheConstants.{MOST_FRAME_ENTRY}
+use Rattle.weight_frame.specs.Frame.{IsZeroVector, IsGreatestDivisor, AreLeastMultipliers, Exchange, keeps, takes, turns, exchanges, largest, AreWithinEntryLimit}
+use Rattle.weight_frame.specs.steps.Sums.{IsSmallSum, IsLargeSum}
+use Rattle.weight_frame.specs.steps.Reached.{IsStep, IsStepAbove}
 use Rattle.weight_frame.proofs.Sums.{sum_exists}
 use Rattle.weight_frame.proofs.Divisors.{greatest_more, alone}
 use Rattle.weight_frame.proofs.Euclid.{multipliers_divisor, multipliers_small}
 
 -- no vector, or one
 pub within_none : AreWithinEntryLimit []
-within_none = all_from_each {P = λ x. largest x ≤ entry_limit} empty
+within_none = all_from_each {P = λ x. largest x ≤ MOST_FRAME_ENTRY} empty
 
-pub within_one : (k : List ℤ) → largest k ≤ entry_limit → AreWithinEntryLimit (k ∷ [])
-within_one k h = all_from_each {P = λ x. largest x ≤ entry_limit} (more h empty)
+pub within_one : (k : List ℤ) → largest k ≤ MOST_FRAME_ENTRY → AreWithinEntryLimit (k ∷ [])
+within_one k h = all_from_each {P = λ x. largest x ≤ MOST_FRAME_ENTRY} (more h empty)
 
 -- the first vector kept is above the limit
 pub kept_above : (n : ℕ) (u : List ℤ) (v : ℤ) (h : List ℤ) (after g p : ℕ) (q : ℤ) (s : ℕ) (t : ℤ) (told : ℕ) → length u ≡ n → length h ≡ n → 0 < after → AreLeastMultipliers v after g p q s t
@@ -61,7 +62,7 @@ later_made n u v h after g p q s t k next positive small are x y = record {
 first_divisor : (v : ℤ) (g : ℕ) → nat_abs v ≡ g → (values : List ℤ) → IsGreatestDivisor values 0 → IsGreatestDivisor (v ∷ values) g
 first_divisor v g e values d = subst (IsGreatestDivisor (v ∷ values)) e (greatest_more v values 0 (nat_abs v) d (alone v))
 
-pub first_keeps : (n : ℕ) (u : List ℤ) (v : ℤ) (h z k : List ℤ) → v ≡ pos 0 → k ≡ u → largest u ≤ entry_limit → IsZeroVector n z → largest z ≤ entry_limit → IsStep n u v h 0 (k ∷ []) z 0
+pub first_keeps : (n : ℕ) (u : List ℤ) (v : ℤ) (h z k : List ℤ) → v ≡ pos 0 → k ≡ u → largest u ≤ MOST_FRAME_ENTRY → IsZeroVector n z → largest z ≤ MOST_FRAME_ENTRY → IsStep n u v h 0 (k ∷ []) z 0
 first_keeps n u v h z k e f within is_zero small = rw f (record {
   step = keeps refl e is_zero;
   divisor = first_divisor v 0 (rw e refl);
@@ -70,7 +71,7 @@ first_keeps n u v h z k e f within is_zero small = rw f (record {
   small = omega arith;
 })
 
-pub first_takes : (n : ℕ) (u : List ℤ) (v : ℤ) (h next : List ℤ) (g : ℕ) → pos 0 <ℤ v → next ≡ u → nat_abs v < 2 ^ 55 → g ≡ nat_abs v → largest u ≤ entry_limit → IsStep n u v h 0 [] next g
+pub first_takes : (n : ℕ) (u : List ℤ) (v : ℤ) (h next : List ℤ) (g : ℕ) → pos 0 <ℤ v → next ≡ u → nat_abs v < 2 ^ 55 → g ≡ nat_abs v → largest u ≤ MOST_FRAME_ENTRY → IsStep n u v h 0 [] next g
 first_takes n u v h next g p e small f within = rw (e, f) (record {
   step = takes refl p;
   divisor = first_divisor v (nat_abs v) refl;
@@ -79,7 +80,7 @@ first_takes n u v h next g p e small f within = rw (e, f) (record {
   small = small;
 })
 
-pub first_turns : (n : ℕ) (u : List ℤ) (v : ℤ) (h next : List ℤ) (g : ℕ) → v <ℤ pos 0 → next ≡ scaled (negsuc 0) u → nat_abs v < 2 ^ 55 → g ≡ nat_abs v → largest next ≤ entry_limit → IsStep n u v h 0 [] next g
+pub first_turns : (n : ℕ) (u : List ℤ) (v : ℤ) (h next : List ℤ) (g : ℕ) → v <ℤ pos 0 → next ≡ scaled (negsuc 0) u → nat_abs v < 2 ^ 55 → g ≡ nat_abs v → largest next ≤ MOST_FRAME_ENTRY → IsStep n u v h 0 [] next g
 first_turns n u v h next g p e small f within = record {
   step = subst (λ (x : List ℤ). Exchange n u v h 0 g [] x) (sym e) (turns refl p);
   divisor = first_divisor v g (sym f);

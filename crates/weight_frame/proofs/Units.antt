@@ -5,10 +5,11 @@ use Rattle.lattice_theory.specs.Vector.{entry, dot, IsUnitVector}
 use Rattle.lattice_theory.proofs.Integers.{products_out, linear}
 use Rattle.lattice_theory.proofs.Members.{Each, empty, more}
 use Rattle.lattice_theory.proofs.Vectors.{unit, length-unit, entry-unit_same, entry-unit_other, same_from_entries}
-use Rattle.weight_frame.specs.Frame.{AreUnitVectors, AreCoordinates, largest, entry_limit}
+use Rattle.lattice_core.specs.declared.limits.TheConstants.{MOST_FRAME_ENTRY}
+use Rattle.weight_frame.specs.Frame.{AreUnitVectors, AreCoordinates, largest}
 use Rattle.weight_frame.proofs.Largest.{unit_small}
 use Rattle.weight_frame.proofs.Steps.{AreSized}
-use Rattle.weight_frame.specs.Echelon.{Leads, no_more, leads}
+use Rattle.weight_frame.specs.steps.Echelon.{Leads, no_more, leads}
 use Rattle.weight_frame.proofs.Leads.{column}
 
 -- the vectors of the list are the unit vectors from the i-th on
@@ -69,8 +70,8 @@ all_units n us h = λ j k e l. subst (λ (i : ℕ). IsUnitVector n i (slice_inde
 pub unit_vectors_sized : (n : ℕ) (us : List (List ℤ)) → AreUnitVectors n us → AreSized n us
 unit_vectors_sized n us h = units_each (λ x. length x ≡ n) n 0 us (λ k u x. x.dimension) (all_units n us h)
 
-pub unit_vectors_small : (n : ℕ) (us : List (List ℤ)) → AreUnitVectors n us → Each (λ x. largest x ≤ entry_limit) us
-unit_vectors_small n us h = units_each (λ x. largest x ≤ entry_limit) n 0 us (λ k u x. unit_small n k u x) (all_units n us h)
+pub unit_vectors_small : (n : ℕ) (us : List (List ℤ)) → AreUnitVectors n us → Each (λ x. largest x ≤ MOST_FRAME_ENTRY) us
+unit_vectors_small n us h = units_each (λ x. largest x ≤ MOST_FRAME_ENTRY) n 0 us (λ k u x. unit_small n k u x) (all_units n us h)
 
 pub unit_vectors_lead : (n : ℕ) (us : List (List ℤ)) → AreUnitVectors n us → Leads 0 us
 unit_vectors_lead n us h = units_lead n 0 us (all_units n us h)

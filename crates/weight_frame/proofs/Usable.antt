@@ -6,7 +6,7 @@ use Rattle.std.specs.List.{AllZip}
 use Rattle.std.proofs.lemmas.Slice.Zip.{AllZip-map}
 use Rattle.lattice_core.specs.declared.weights.WeightSystem.{WeightSystem}
 use Rattle.lattice_core.specs.Weights.{Weighted, weighted, weighted_all, weighted_degree, columns_of, IsSummed, AreWellFormed, AreWithinLimits}
-use Rattle.weight_frame.specs.Reached.{IsUsable}
+use Rattle.weight_frame.specs.steps.Reached.{IsUsable}
 
 length_map_below : (systems : List WeightSystem) (i : ℕ) → i < length systems → i < length (weighted_all systems)
 length_map_below systems i h = rw (length-map systems weighted) h

@@ -4,7 +4,8 @@ use Rattle.std.proofs.lemmas.Int.{ints, fits_signed_from_abs}
 use Rattle.std.proofs.lemmas.List.{drop_more, drop_all}
 use Rattle.lattice_theory.specs.Vector.{entry, dot}
 use Rattle.lattice_core.specs.Weights.{total}
-use Rattle.weight_frame.specs.Frame.{largest, entry_limit}
+use Rattle.lattice_core.specs.declared.limits.TheConstants.{MOST_FRAME_ENTRY}
+use Rattle.weight_frame.specs.Frame.{largest}
 use Rattle.weight_frame.proofs.Bounds.{product_bound, sum_bound}
 use Rattle.lattice_theory.proofs.Integers.{linear, first_terms}
 
@@ -34,14 +35,14 @@ weight_at_most (a ∷ w) zero = omega arith
 weight_at_most (a ∷ w) (suc i) = let h = weight_at_most w i in omega arith
 
 -- the size of the sum so far, and what the weights that are left may add
-sum_size : (s p t : ℤ) (a left all : ℕ) → t ≡ s +ℤ p → nat_abs p ≤ entry_limit * a → nat_abs s + entry_limit * (a + left) ≤ entry_limit * all → nat_abs t + entry_limit * left ≤ entry_limit * all
+sum_size : (s p t : ℤ) (a left all : ℕ) → t ≡ s +ℤ p → nat_abs p ≤ MOST_FRAME_ENTRY * a → nat_abs s + MOST_FRAME_ENTRY * (a + left) ≤ MOST_FRAME_ENTRY * all → nat_abs t + MOST_FRAME_ENTRY * left ≤ MOST_FRAME_ENTRY * all
 sum_size s p t a left all e h k = omega (arith, ints)
 
-pub value_bound : (w : List ℕ) (i : ℕ) (s p t : ℤ) → i < length w → t ≡ s +ℤ p → nat_abs p ≤ entry_limit * get_or w i 0 → nat_abs s + entry_limit * total (drop i w) ≤ entry_limit * total w
-    → nat_abs t + entry_limit * total (drop (i + 1) w) ≤ entry_limit * total w
+pub value_bound : (w : List ℕ) (i : ℕ) (s p t : ℤ) → i < length w → t ≡ s +ℤ p → nat_abs p ≤ MOST_FRAME_ENTRY * get_or w i 0 → nat_abs s + MOST_FRAME_ENTRY * total (drop i w) ≤ MOST_FRAME_ENTRY * total w
+    → nat_abs t + MOST_FRAME_ENTRY * total (drop (i + 1) w) ≤ MOST_FRAME_ENTRY * total w
 value_bound w i s p t l e h k = sum_size s p t (get_or w i 0) (total (drop (i + 1) w)) (total w) e h (rw (total_drop w i l) at k)
 
-pub value_fits : (w : List ℕ) (i : ℕ) (s p : ℤ) → total w ≤ 32_767 → i < length w → nat_abs p ≤ entry_limit * get_or w i 0 → nat_abs s + entry_limit * total (drop i w) ≤ entry_limit * total w → SFits w64 (s +ℤ p)
+pub value_fits : (w : List ℕ) (i : ℕ) (s p : ℤ) → total w ≤ 32_767 → i < length w → nat_abs p ≤ MOST_FRAME_ENTRY * get_or w i 0 → nat_abs s + MOST_FRAME_ENTRY * total (drop i w) ≤ MOST_FRAME_ENTRY * total w → SFits w64 (s +ℤ p)
 value_fits w i s p m l h k = let b = value_bound w i s p (s +ℤ p) l refl h k in fits_signed_from_abs w64 (s +ℤ p) (omega arith)
 
 -- the size of a value

@@ -1,7 +1,8 @@
 -- What the calls on frames answer. This project's own.
 use Rattle.std.specs.Prelude.{◌≡◌, ◌⊎◌, ℕ, ◌<◌, ◌≤◌, List, length, ℤ}
 use Rattle.lattice_core.specs.Weights.{Weighted, columns_of, IsInLattice, AreWellFormed, AreWithinLimits}
-use Rattle.weight_frame.specs.Frame.{IsRecursion, AreCoordinates, largest, coordinate_limit, AreWithinEntryLimit, IsFirstAboveLimit}
+use Rattle.lattice_core.specs.declared.limits.TheConstants.{MOST_COORDINATE}
+use Rattle.weight_frame.specs.Frame.{IsRecursion, AreCoordinates, largest, AreWithinEntryLimit, IsFirstAboveLimit}
 use Rattle.weight_frame.specs.declared.frame.FrameFault.{FrameFault}
 use Rattle.weight_frame.specs.declared.frame.FrameFault.TheVariants as faults
 use Rattle.weight_frame.specs.declared.coordinates.Coordinates.{Coordinates}
@@ -55,10 +56,10 @@ pub record HasCoordinates (frame : Framed) (x coordinates : List ℤ) : Type 0 w
 pub record HasLargeCoordinate (frame : Framed) (x : List ℤ) : Type 0 where
   pub coordinates : List ℤ
   pub are_coordinates : HasCoordinates frame x coordinates
-  pub large : coordinate_limit < largest coordinates
+  pub large : MOST_COORDINATE < largest coordinates
 
 -- what is answered of x: its coordinates where they are within the limit, or that one of them isn't, or that x is outside the lattice
 abbrev pub IsAnswer : Framed → List ℤ → Coordinates → Type 0
-IsAnswer frame x (answers.At y) = HasCoordinates frame x y × (largest y ≤ coordinate_limit)
+IsAnswer frame x (answers.At y) = HasCoordinates frame x y × (largest y ≤ MOST_COORDINATE)
 IsAnswer frame x answers.Large = HasLargeCoordinate frame x
 IsAnswer frame x answers.Outside = IsInLattice frame.systems x → ⊥

@@ -2,6 +2,7 @@
 use Rattle.std.specs.Prelude.{◌≡◌, ◌≢◌, ℕ, ◌*◌, ◌<◌, ◌≤◌, max, List, [], ◌∷◌, ◌++◌, length, map, ℤ, pos, negsuc, neg_ℤ, ◌+ℤ◌, ◌*ℤ◌, ◌<ℤ◌, nat_abs, slice_index_or}
 use Rattle.std.specs.List.{All}
 use Rattle.lattice_theory.specs.Vector.{entry, dot, scaled, DividesInteger, IsUnitVector}
+use Rattle.lattice_core.specs.declared.limits.TheConstants.{MOST_FRAME_ENTRY}
 use Rattle.lattice_core.specs.Weights.{Weighted, weighted_degree, columns_of}
 
 -- x is the vector of n entries 0
@@ -90,17 +91,9 @@ abbrev pub largest : List ℤ → ℕ
 largest [] = 0
 largest (a ∷ x) = max (nat_abs a) (largest x)
 
--- the largest absolute value that the entries of the recursion's vectors may have
-abbrev pub entry_limit : ℕ
-entry_limit = 1_099_511_627_776
-
--- the largest absolute value that coordinates may have
-abbrev pub coordinate_limit : ℕ
-coordinate_limit = 1_073_741_824
-
 -- no vector has an entry above the limit
 abbrev pub AreWithinEntryLimit : List (List ℤ) → Type 0
-AreWithinEntryLimit vectors = All (λ x. largest x ≤ entry_limit) vectors
+AreWithinEntryLimit vectors = All (λ x. largest x ≤ MOST_FRAME_ENTRY) vectors
 
 -- the first vector of the list with an entry above the limit has the largest absolute value that is told
 pub record IsFirstAboveLimit (vectors : List (List ℤ)) (told : ℕ) : Type 0 where
@@ -110,4 +103,4 @@ pub record IsFirstAboveLimit (vectors : List (List ℤ)) (told : ℕ) : Type 0 w
   pub split : vectors ≡ before ++ (vector ∷ behind)
   pub within : AreWithinEntryLimit before
   pub value : told ≡ largest vector
-  pub above : entry_limit < told
+  pub above : MOST_FRAME_ENTRY < told

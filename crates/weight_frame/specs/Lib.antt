@@ -1,9 +1,6 @@
 pub mod Frame
+pub mod Bases
+pub mod StepSizes
 pub mod Laws
 pub mod Answers
-pub mod Reached
-pub mod Euclid
-pub mod Sums
-pub mod Echelon
-pub mod Places
-pub mod Plain
+pub mod steps

@@ -4,20 +4,19 @@ ghost use Rattle.std.specs.Int.RustNames.{int_div};
 ghost use Rattle.std.specs.List.{All};
 ghost use Rattle.lattice_theory.specs.Vector.{entry, dot};
 ghost use Rattle.lattice_core.specs.Weights.{weighted_all, columns_of, IsInLattice, AreWellFormed, AreWithinLimits};
-ghost use Rattle.weight_frame.specs.Frame.{IsIntegerCombination, AreWithinEntryLimit, largest, entry_limit, coordinate_limit};
-ghost use Rattle.weight_frame.specs.Reached.{AreSmallVectors};
-ghost use Rattle.weight_frame.specs.Echelon.{Leads};
-ghost use Rattle.weight_frame.specs.Places.{IsFirstPlace, IsNextCoordinate, AreFound, IsLargeSomewhere};
+ghost use Rattle.lattice_core.specs.declared.limits.TheConstants.{MOST_FRAME_ENTRY};
+ghost use Rattle.lattice_core.specs.declared.limits.TheConstants.{MOST_COORDINATE};
+ghost use Rattle.weight_frame.specs.Frame.{IsIntegerCombination, AreWithinEntryLimit, largest};
+ghost use Rattle.weight_frame.specs.steps.Reached.{AreSmallVectors};
+ghost use Rattle.weight_frame.specs.steps.Echelon.{Leads};
+ghost use Rattle.weight_frame.specs.steps.Places.{IsFirstPlace, IsNextCoordinate, AreFound, IsLargeSomewhere};
 ghost use Rattle.weight_frame.specs.Answers.{IsHandedOut, IsAnswer};
 
 use crate::multiples::product;
 use crate::values::{narrowed, weighted_value};
 use crate::vector::FrameVector;
 use arrayvec::ArrayVec;
-use lattice_core::{Point, WeightSystem};
-
-/// The largest absolute value of a coordinate.
-const COORDINATE_LIMIT: u128 = 1_073_741_824;
+use lattice_core::{MOST_COORDINATE, Point, WeightSystem};
 
 /// What is known of a vector's coordinates in a frame.
 #[derive(Debug, Drop, PartialEq, Eq)]
@@ -36,7 +35,7 @@ fn combined_entry(coefficients: &[i64], vectors: &[FrameVector], i: usize) -> i1
     requires most { length vectors.now ≤ 6 }
     requires dimension { All (λ b. i < length b) vectors.now }
     requires entries { AreWithinEntryLimit vectors.now }
-    requires coefficients { largest coefficients.now ≤ coordinate_limit }
+    requires coefficients { largest coefficients.now ≤ MOST_COORDINATE }
     ensures value { result ≡ dot coefficients.now (map (λ b. entry b i) vectors.now) }
     ensures bound { nat_abs result ≤ 2 ^ 98 }
 {
@@ -52,7 +51,7 @@ pub(crate) fn combine(coefficients: &[i64], vectors: &[FrameVector], out: &mut [
     requires count { length coefficients.now ≤ length vectors.now }
     requires most { length vectors.now ≤ 6 }
     requires small { AreSmallVectors (length out.old) vectors.now }
-    requires coefficients { largest coefficients.now ≤ coordinate_limit }
+    requires coefficients { largest coefficients.now ≤ MOST_COORDINATE }
     ensures { IsIntegerCombination (length out.old) coefficients.now vectors.now out.new }
 {
     for i in 0..out.len() {
@@ -87,7 +86,7 @@ fn next_coordinate(x: &[i64], vectors: &[FrameVector], found: &[i64]) -> i128
     requires most { length vectors.now ≤ 6 }
     requires small { AreSmallVectors (length x.now) vectors.now }
     requires leads { Leads 0 vectors.now }
-    requires found { largest found.now ≤ coordinate_limit }
+    requires found { largest found.now ≤ MOST_COORDINATE }
     ensures { IsNextCoordinate vectors.now x.now found.now result }
 {
     let vector = vectors[found.len()].entries();
@@ -111,7 +110,7 @@ fn coordinates_of(x: &[i64], vectors: &[FrameVector]) -> Option<ArrayVec<i64, 6>
     let mut found = ArrayVec::new();
     for _place in 0..vectors.len() {
         let next = next_coordinate(x, vectors, found.as_slice());
-        if next.unsigned_abs() > COORDINATE_LIMIT {
+        if next.unsigned_abs() > MOST_COORDINATE {
             return None;
         }
         found.push(narrowed(next));
@@ -124,7 +123,7 @@ fn is_inside(systems: &[WeightSystem], x: &[i64]) -> bool
     requires formed { AreWellFormed (weighted_all systems.now) }
     requires limited { AreWithinLimits (weighted_all systems.now) }
     requires columns { length x.now ≡ columns_of (weighted_all systems.now) }
-    requires small { largest x.now ≤ entry_limit }
+    requires small { largest x.now ≤ MOST_FRAME_ENTRY }
     ensures { IsTrue result ↔ IsInLattice (weighted_all systems.now) x.now }
 {
     for system in systems {

@@ -1,7 +1,8 @@
 //! One step of the recursion, at one vector.
 ghost use Rattle.std.specs.Prelude.{◌≡◌, ℕ, ◌^◌, ◌<◌, ◌≤◌, length, nat_abs, neg_ℤ, MatchResult};
-ghost use Rattle.weight_frame.specs.Frame.{largest, entry_limit};
-ghost use Rattle.weight_frame.specs.Reached.{listed, IsStep, IsStepAbove};
+ghost use Rattle.lattice_core.specs.declared.limits.TheConstants.{MOST_FRAME_ENTRY};
+ghost use Rattle.weight_frame.specs.Frame.{largest};
+ghost use Rattle.weight_frame.specs.steps.Reached.{listed, IsStep, IsStepAbove};
 
 use crate::multiples::sum_of_multiples;
 use crate::multipliers::least_multipliers;
@@ -17,7 +18,7 @@ pub(crate) struct Step {
 
 /// The step at the vector `u` of this value, where the values behind are 0.
 fn first_step(u: &FrameVector, value: i64, h: &FrameVector) -> Step
-    requires within { largest u.now ≤ entry_limit }
+    requires within { largest u.now ≤ MOST_FRAME_ENTRY }
     requires most { length u.now ≤ 12 }
     requires value { nat_abs value < 2 ^ 55 }
     ensures { IsStep (length u.now) u.now value h.now 0 (listed result.kept) result.last result.divisor }
@@ -46,8 +47,8 @@ fn opposite_number(q: i64) -> i128
 /// The step at the vector `u` of this value, where the values behind have a greatest common divisor other than 0.
 fn later_step(u: &FrameVector, value: i64, h: &FrameVector, after: u64) -> Result<Step, u128>
     requires same { length u.now ≡ length h.now }
-    requires within { largest u.now ≤ entry_limit }
-    requires last_within { largest h.now ≤ entry_limit }
+    requires within { largest u.now ≤ MOST_FRAME_ENTRY }
+    requires last_within { largest h.now ≤ MOST_FRAME_ENTRY }
     requires value { nat_abs value < 2 ^ 55 }
     requires positive { 0 < after }
     requires small { after < 2 ^ 55 }
@@ -86,8 +87,8 @@ pub(crate) fn stepped(
 ) -> Result<Step, u128>
     requires same { length u.now ≡ length h.now }
     requires most { length u.now ≤ 12 }
-    requires within { largest u.now ≤ entry_limit }
-    requires last_within { largest h.now ≤ entry_limit }
+    requires within { largest u.now ≤ MOST_FRAME_ENTRY }
+    requires last_within { largest h.now ≤ MOST_FRAME_ENTRY }
     requires value { nat_abs value < 2 ^ 55 }
     requires small { after < 2 ^ 55 }
     ensures { MatchResult result

@@ -3,9 +3,10 @@ ghost use Rattle.std.specs.Prelude.{◌≡◌, ℕ, ◌^◌, ◌<◌, ◌≤◌,
 ghost use Rattle.std.specs.List.{All};
 ghost use Rattle.lattice_theory.specs.Vector.{entry};
 ghost use Rattle.lattice_core.specs.Weights.{weighted_all, columns_of, AreWellFormed, AreWithinLimits};
+ghost use Rattle.lattice_core.specs.declared.limits.TheConstants.{MOST_FRAME_ENTRY};
 ghost use Rattle.weight_frame.specs.declared.frame.FrameFault.TheVariants as FrameFault;
 ghost use Rattle.weight_frame.specs.Answers.{IsFrameWithinLimit, ExceedsEntryLimit, HasOtherDimension, IsFrameFault, IsHandedOut, IsAnswer};
-ghost use Rattle.weight_frame.specs.Frame.{IsIntegerCombination, entry_limit};
+ghost use Rattle.weight_frame.specs.Frame.{IsIntegerCombination};
 
 use crate::coordinates::{Coordinates, answer, combine};
 use crate::systems::frame_vectors;
@@ -127,7 +128,7 @@ impl Frame {
         requires vector { j < length self.now.vectors }
         requires place { i < columns_of self.now.systems }
         ensures value { result ≡ entry (slice_index_or self.now.vectors j []) i }
-        ensures bound { nat_abs result ≤ entry_limit }
+        ensures bound { nat_abs result ≤ MOST_FRAME_ENTRY }
     {
         i128::from(self.vectors[j].entries()[i])
     }

@@ -1,20 +1,19 @@
 //! Sums of multiples of two vectors, as far as their entries are within the limit.
 ghost use Rattle.std.specs.Prelude.{◌≡◌, ℕ, ◌^◌, ◌<◌, ◌≤◌, List, length, ℤ, nat_abs, ◌+ℤ◌, ◌*ℤ◌, MatchResult};
 ghost use Rattle.std.specs.List.{All};
-ghost use Rattle.weight_frame.specs.Frame.{IsSumOfMultiples, largest, entry_limit};
-ghost use Rattle.weight_frame.specs.Sums.{IsSmallSum, IsLargeSum};
+ghost use Rattle.lattice_core.specs.declared.limits.TheConstants.{MOST_FRAME_ENTRY};
+ghost use Rattle.weight_frame.specs.Frame.{IsSumOfMultiples, largest};
+ghost use Rattle.weight_frame.specs.steps.Sums.{IsSmallSum, IsLargeSum};
 
 use crate::values::narrowed;
 use crate::vector::FrameVector;
 use arrayvec::ArrayVec;
-
-/// The largest absolute value of the entries of a vector of the recursion.
-const ENTRY_LIMIT: u128 = 1_099_511_627_776;
+use lattice_core::MOST_FRAME_ENTRY;
 
 /// The product of a multiplier and an entry.
 pub(crate) fn product(p: i128, a: i64) -> i128
     requires multiplier { nat_abs p ≤ 2 ^ 55 }
-    requires entry { nat_abs a ≤ entry_limit }
+    requires entry { nat_abs a ≤ MOST_FRAME_ENTRY }
     ensures value { result ≡ p *ℤ a }
     ensures bound { nat_abs result ≤ 2 ^ 95 }
 {
@@ -24,8 +23,8 @@ pub(crate) fn product(p: i128, a: i64) -> i128
 fn entry_sum(p: i128, a: i64, q: i128, b: i64) -> i128
     requires first { nat_abs p ≤ 2 ^ 55 }
     requires second { nat_abs q ≤ 2 ^ 55 }
-    requires left { nat_abs a ≤ entry_limit }
-    requires right { nat_abs b ≤ entry_limit }
+    requires left { nat_abs a ≤ MOST_FRAME_ENTRY }
+    requires right { nat_abs b ≤ MOST_FRAME_ENTRY }
     ensures value { result ≡ p *ℤ a +ℤ q *ℤ b }
     ensures bound { nat_abs result ≤ 2 ^ 96 }
 {
@@ -38,8 +37,8 @@ fn sum_entries(p: i128, x: &[i64], q: i128, y: &[i64]) -> ArrayVec<i128, 12>
     requires most { length x.now ≤ 12 }
     requires first { nat_abs p ≤ 2 ^ 55 }
     requires second { nat_abs q ≤ 2 ^ 55 }
-    requires left { largest x.now ≤ entry_limit }
-    requires right { largest y.now ≤ entry_limit }
+    requires left { largest x.now ≤ MOST_FRAME_ENTRY }
+    requires right { largest y.now ≤ MOST_FRAME_ENTRY }
     ensures sum { IsSumOfMultiples (length x.now) p x.now q y.now result.items }
     ensures bound { All (λ a. nat_abs a ≤ 2 ^ 96) result.items }
 {
@@ -64,7 +63,7 @@ fn largest_of(x: &[i128]) -> u128
 /// The vector with these entries.
 fn narrowed_entries(x: &[i128]) -> FrameVector
     requires most { length x.now ≤ 12 }
-    requires within { largest x.now ≤ entry_limit }
+    requires within { largest x.now ≤ MOST_FRAME_ENTRY }
     ensures { result ≡ x.now }
 {
     let mut entries = ArrayVec::new();
@@ -84,13 +83,13 @@ pub(crate) fn sum_of_multiples(
     requires same { length x.now ≡ length y.now }
     requires first { nat_abs p ≤ 2 ^ 55 }
     requires second { nat_abs q ≤ 2 ^ 55 }
-    requires left { largest x.now ≤ entry_limit }
-    requires right { largest y.now ≤ entry_limit }
+    requires left { largest x.now ≤ MOST_FRAME_ENTRY }
+    requires right { largest y.now ≤ MOST_FRAME_ENTRY }
     ensures { MatchResult result (IsSmallSum (length x.now) p x.now q y.now) (IsLargeSum (length x.now) p x.now q y.now) }
 {
     let entries = sum_entries(p, x.entries(), q, y.entries());
     let most = largest_of(entries.as_slice());
-    if most > ENTRY_LIMIT {
+    if most > MOST_FRAME_ENTRY {
         return Err(most);
     }
     Ok(narrowed_entries(entries.as_slice()))

@@ -3,7 +3,7 @@ ghost use Rattle.std.specs.Prelude.{◌≡◌, ℕ, ◌^◌, ◌+◌, ◌*◌, �
 ghost use Rattle.std.specs.Int.{int_rem_euclid};
 ghost use Rattle.std.specs.Int.RustNames.{int_div};
 ghost use Rattle.weight_frame.specs.Frame.{AreLeastMultipliers};
-ghost use Rattle.weight_frame.specs.Euclid.{IsCongruent, IsBezout};
+ghost use Rattle.weight_frame.specs.steps.Euclid.{IsCongruent, IsBezout};
 
 /// The greatest common divisor of two numbers and a multiplier of the first.
 #[derive(Drop)]

@@ -1,8 +1,9 @@
 //! The recursion of one system over the vectors, and of all systems.
 ghost use Rattle.std.specs.Prelude.{◌≡◌, ℕ, ◌+◌, ◌^◌, ◌<◌, ◌≤◌, List, [], ◌∷◌, ◌++◌, length, drop, ⊤, MatchResult};
 ghost use Rattle.lattice_core.specs.Weights.{weighted, weighted_all, columns_of, AreWellFormed, AreWithinLimits};
-ghost use Rattle.weight_frame.specs.Frame.{largest, entry_limit};
-ghost use Rattle.weight_frame.specs.Reached.{listed, IsReached, IsAbove, AreReached, IsUsable, AreSmallVectors};
+ghost use Rattle.lattice_core.specs.declared.limits.TheConstants.{MOST_FRAME_ENTRY};
+ghost use Rattle.weight_frame.specs.Frame.{largest};
+ghost use Rattle.weight_frame.specs.steps.Reached.{listed, IsReached, IsAbove, AreReached, IsUsable, AreSmallVectors};
 ghost use Rattle.weight_frame.specs.Answers.{IsFrameWithinLimit, ExceedsEntryLimit};
 
 use crate::exchange::stepped;

@@ -1,7 +1,7 @@
 //! Tests of frames.
 ghost use Rattle.std.specs.Prelude.{◌≡◌, ◌<◌, length, IsTrue, IfOk};
 ghost use Rattle.lattice_core.specs.Weights.{weighted_all, AreWellFormed, AreWithinLimits};
-ghost use Rattle.weight_frame.specs.Plain.{is_plain, is_summed};
+ghost use Rattle.weight_frame.specs.steps.Plain.{is_plain, is_summed};
 
 use super::*;
 use lattice_core::{Point, WeightSystem};

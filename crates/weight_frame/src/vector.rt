@@ -1,7 +1,8 @@
 //! The vectors of the recursion, which lie in the value itself.
 ghost use Rattle.std.specs.Prelude.{◌≡◌, ◌<◌, ◌≤◌, length, negsuc, ⊤};
 ghost use Rattle.lattice_theory.specs.Vector.{scaled, IsUnitVector};
-ghost use Rattle.weight_frame.specs.Frame.{IsZeroVector, largest, entry_limit};
+ghost use Rattle.lattice_core.specs.declared.limits.TheConstants.{MOST_FRAME_ENTRY};
+ghost use Rattle.weight_frame.specs.Frame.{IsZeroVector, largest};
 
 use arrayvec::ArrayVec;
 use std::default::Default;
@@ -62,7 +63,7 @@ impl FrameVector {
 pub(crate) fn zero_vector(n: usize) -> FrameVector
     requires { n ≤ 12 }
     ensures zero { IsZeroVector n result }
-    ensures within { largest result ≤ entry_limit }
+    ensures within { largest result ≤ MOST_FRAME_ENTRY }
 {
     let mut entries = ArrayVec::new();
     for _place in 0..n {
@@ -76,7 +77,7 @@ pub(crate) fn unit_vector(n: usize, i: usize) -> FrameVector
     requires within { i < n }
     requires most { n ≤ 12 }
     ensures unit { IsUnitVector n i result }
-    ensures within { largest result ≤ entry_limit }
+    ensures within { largest result ≤ MOST_FRAME_ENTRY }
 {
     let mut entries = ArrayVec::new();
     for j in 0..n {
@@ -87,9 +88,9 @@ pub(crate) fn unit_vector(n: usize, i: usize) -> FrameVector
 
 /// The opposite vector.
 pub(crate) fn opposite(x: &FrameVector) -> FrameVector
-    requires { largest x.now ≤ entry_limit }
+    requires { largest x.now ≤ MOST_FRAME_ENTRY }
     ensures value { result ≡ scaled (negsuc 0) x.now }
-    ensures within { largest result ≤ entry_limit }
+    ensures within { largest result ≤ MOST_FRAME_ENTRY }
 {
     let mut entries = ArrayVec::new();
     for entry in x.entries() {

@@ -4,8 +4,8 @@ use Rattle.std.proofs.lemmas.List.{take_all}
 use Rattle.lattice_theory.specs.Size.{absolute_sum}
 use Rattle.lattice_core.specs.Limits.{size_limit_of}
 use Rattle.lattice_core.specs.Dimensions.{dimension_of}
-use Rattle.hull.specs.Differences.{difference, differences}
-use Rattle.hull.specs.Kernels.{IsPrimitiveKernel, IsSmallKernel}
+use Rattle.hull.specs.steps.Differences.{difference, differences}
+use Rattle.hull.specs.steps.Kernels.{IsPrimitiveKernel, IsSmallKernel}
 use Rattle.hull.proofs.Kernels.{members_entries}
 use Rattle.hull.proofs.Vectors.{length-difference, absolute_sum-difference, points_small, points_bound, others_of, others_all, others_length, differences_are, small_kernel, next_kernel, first_length, from}
 use Rattle.hull.proofs.differences.kernel_of.Goals as goal

@@ -1,5 +1,5 @@
 use Rattle.std.proofs.Common.{◌+◌, ◌≤◌, length, take}
-use Rattle.hull.specs.Kernels.{IsPrimitiveKernel}
+use Rattle.hull.specs.steps.Kernels.{IsPrimitiveKernel}
 use Rattle.hull.proofs.Vectors.{from}
 use Rattle.hull.proofs.differences.kernel_of.Given as goal
 

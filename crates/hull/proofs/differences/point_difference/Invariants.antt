@@ -1,6 +1,6 @@
 use Rattle.std.proofs.Common.{◌≡◌, take}
 use Rattle.arrayvec.specs.ArrayVec.{array_vec_len}
-use Rattle.hull.specs.Differences.{difference}
+use Rattle.hull.specs.steps.Differences.{difference}
 use Rattle.hull.proofs.differences.point_difference.Given as goal
 
 abbrev pub invariant-loop-i : goal.invariant-loop-i

@@ -1,6 +1,6 @@
 use Rattle.std.proofs.Common.{◌≡◌, [], length, take, ◌∙◌, ap, arith}
 use Rattle.lattice_core.specs.Dimensions.{dimension_of}
-use Rattle.hull.specs.Kernels.{IsPrimitiveKernel}
+use Rattle.hull.specs.steps.Kernels.{IsPrimitiveKernel}
 use Rattle.facet_theory.specs.Solid.{AreSolid}
 use Rattle.hull.proofs.FirstPoints.{IsMet, met_none, met_more, met_all, found_dimension}
 use Rattle.hull.proofs.facets.all_facets.Goals as goal

@@ -1,6 +1,6 @@
 use Rattle.std.proofs.Common.{take, []}
 use Rattle.lattice_core.specs.Dimensions.{dimension_of}
-use Rattle.hull.specs.Search.{AddsFacets}
+use Rattle.hull.specs.steps.Search.{AddsFacets}
 use Rattle.hull.proofs.FirstPoints.{IsMet}
 use Rattle.hull.proofs.facets.all_facets.Given as goal
 

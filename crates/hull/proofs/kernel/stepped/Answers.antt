@@ -2,7 +2,7 @@ use Rattle.std.proofs.Common.{length, SFits, ap, ◌∙◌, rules, arith, take}
 use Rattle.std.specs.Int.{w128}
 use Rattle.std.proofs.lemmas.Int.{to_z-of_z}
 use Rattle.lattice_theory.specs.Vector.{dot}
-use Rattle.hull.specs.Kernels.{IsReducedBy}
+use Rattle.hull.specs.steps.Kernels.{IsReducedBy}
 use Rattle.hull.proofs.Kernels.{member_entries, member_length, entries_at_most}
 use Rattle.hull.proofs.Pivots.{rest, in_rest, stepped_none, stepped_more, stepped_room, stepped_all, turn_can_reduce, pivot_member}
 use Rattle.hull.proofs.kernel.stepped.Goals as goal

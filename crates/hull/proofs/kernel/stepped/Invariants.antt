@@ -1,5 +1,5 @@
 use Rattle.std.proofs.Common.{take}
-use Rattle.hull.specs.Kernels.{IsStepped}
+use Rattle.hull.specs.steps.Kernels.{IsStepped}
 use Rattle.hull.proofs.kernel.stepped.Given as goal
 
 abbrev pub invariant-loop-member : goal.invariant-loop-member

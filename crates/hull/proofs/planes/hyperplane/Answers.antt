@@ -8,8 +8,8 @@ use Rattle.lattice_theory.specs.Size.{absolute_sum}
 use Rattle.normal_bounds.specs.Bounds.{IsFixedBy}
 use Rattle.lattice_core.specs.Dimensions.{dimension_of}
 use Rattle.hull.specs.Hyperplanes.{StartsPositive}
-use Rattle.hull.specs.Differences.{differences}
-use Rattle.hull.specs.Kernels.{IsPrimitiveKernel}
+use Rattle.hull.specs.steps.Differences.{differences}
+use Rattle.hull.specs.steps.Kernels.{IsPrimitiveKernel}
 use Rattle.hull.proofs.Vectors.{points_bound}
 use Rattle.hull.proofs.AffineFunctions.{two_functions, single_fixed, not_several, opposite_fixed, opposite_starts, only_member, first_entries}
 use Rattle.hull.proofs.planes.hyperplane.Goals as goal

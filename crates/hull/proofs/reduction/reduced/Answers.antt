@@ -1,7 +1,7 @@
 use Rattle.std.proofs.Common.{◌≡◌, ◌∙◌, ◌-ℤ◌, pos, neg_ℤ, to_z, of_z, SFits, ap, rules, arith}
 use Rattle.std.specs.Int.{w128}
 use Rattle.std.proofs.lemmas.Int.{ints, to_z-of_z}
-use Rattle.hull.specs.Kernels.{AreMultiplesApart}
+use Rattle.hull.specs.steps.Kernels.{AreMultiplesApart}
 use Rattle.hull.proofs.Arithmetic.{negative_from, nonnegative_from}
 use Rattle.hull.proofs.Reductions.{reduced_plain, reduced_turned}
 use Rattle.hull.proofs.reduction.reduced.Goals as goal

@@ -5,9 +5,9 @@ use Rattle.lattice_theory.specs.Vector.{dot}
 use Rattle.lattice_theory.specs.Size.{absolute_sum}
 use Rattle.lattice_core.specs.Limits.{size_limit_of}
 use Rattle.elimination.specs.Elimination.{Member}
-use Rattle.hull.specs.Differences.{difference}
-use Rattle.hull.specs.Kernels.{IsPrimitiveKernel, IsSmallKernel}
-use Rattle.hull.specs.Search.{IsKernelOfPoints, IsReached, AddsFacets}
+use Rattle.hull.specs.steps.Differences.{difference}
+use Rattle.hull.specs.steps.Kernels.{IsPrimitiveKernel, IsSmallKernel}
+use Rattle.hull.specs.steps.Search.{IsKernelOfPoints, IsReached, AddsFacets}
 use Rattle.hull.proofs.Vectors.{points_bound, points_small, length-difference, absolute_sum-difference}
 use Rattle.hull.proofs.Finding.{HasAdded, small_of_points, kernel_of_points_next, added_same, added_more, added_all}
 use Rattle.hull.proofs.search.+add_facets_from.Goals as goal

@@ -2,7 +2,7 @@ use Rattle.std.proofs.Common.{◌≡◌, ◌≤◌, ◌<◌, ◌*ℤ◌, length,
 use Rattle.std.specs.Int.{w128}
 use Rattle.std.proofs.lemmas.Int.{to_z-of_z}
 use Rattle.lattice_theory.specs.Vector.{entry}
-use Rattle.weight_frame.specs.Frame.{entry_limit}
+use Rattle.lattice_core.specs.declared.limits.TheConstants.{MOST_FRAME_ENTRY}
 use Rattle.weight_frame.proofs.Largest.{entry_at_most}
 use Rattle.weight_frame.proofs.Finding.{combined_more, combined_all, combined_bound, combined_fits, vector_small, vector_long}
 use Rattle.weight_frame.proofs.coordinates.combined_entry.Goals as goal
@@ -22,7 +22,7 @@ product-sum-requires-clause-entry c =
     let long = vector_long c.args.vectors.now c.loop-j.j c.args.i c.index-vectors-j.result c.requires.dimension (omega arith) c.index-vectors-j.is in
     let within : c.args.i < length c.entries.result.now = rw c.entries.ensures.value long in
     let fits : SFits w64 (entry c.entries.result.now c.args.i) = search rules in
-    let here : nat_abs (entry c.entries.result.now c.args.i) ≤ entry_limit = rw c.entries.ensures.value small in
+    let here : nat_abs (entry c.entries.result.now c.args.i) ≤ MOST_FRAME_ENTRY = rw c.entries.ensures.value small in
     simp to_z-of_z here
 
 pub overflow_add-sum : goal.overflow_add-sum

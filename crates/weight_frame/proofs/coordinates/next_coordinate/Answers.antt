@@ -3,7 +3,7 @@ use Rattle.std.specs.Int.{w128}
 use Rattle.std.proofs.lemmas.Int.{to_z-of_z}
 use Rattle.std.specs.List.{All}
 use Rattle.lattice_theory.specs.Vector.{entry}
-use Rattle.weight_frame.specs.Places.{IsFirstPlace}
+use Rattle.weight_frame.specs.steps.Places.{IsFirstPlace}
 use Rattle.weight_frame.proofs.Reaching.{vector_at}
 use Rattle.weight_frame.proofs.Finding.{next_is, first_positive, no_zeros, all_long}
 use Rattle.weight_frame.proofs.coordinates.next_coordinate.Goals as goal

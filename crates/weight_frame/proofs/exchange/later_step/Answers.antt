@@ -2,7 +2,7 @@ use Rattle.std.proofs.Common.{◌≡◌, neg_ℤ, length, refl, sym, SFits, w64,
 use Rattle.std.specs.Int.{w128}
 use Rattle.std.proofs.lemmas.Int.{ints, to_z-of_z}
 use Rattle.weight_frame.specs.Frame.{AreLeastMultipliers}
-use Rattle.weight_frame.specs.Sums.{IsSmallSum, IsLargeSum}
+use Rattle.weight_frame.specs.steps.Sums.{IsSmallSum, IsLargeSum}
 use Rattle.weight_frame.proofs.Euclid.{multipliers_small}
 use Rattle.weight_frame.proofs.StepAnswers.{kept_above, last_above, later_made}
 use Rattle.weight_frame.proofs.exchange.later_step.Goals as goal

@@ -1,6 +1,6 @@
 use Rattle.std.proofs.Common.{ℕ, ◌^◌, ◌<◌, pos, ◌*ℤ◌}
 use Rattle.std.specs.Int.{IsGcd}
-use Rattle.weight_frame.specs.Euclid.{IsCongruent}
+use Rattle.weight_frame.specs.steps.Euclid.{IsCongruent}
 use Rattle.weight_frame.proofs.Factors.{AreFactors}
 use Rattle.weight_frame.proofs.multipliers.euclid.Given as goal
 

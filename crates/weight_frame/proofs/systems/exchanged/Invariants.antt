@@ -1,6 +1,6 @@
 use Rattle.std.proofs.Common.{drop, length}
 use Rattle.lattice_core.specs.Weights.{weighted}
-use Rattle.weight_frame.specs.Reached.{IsReached}
+use Rattle.weight_frame.specs.steps.Reached.{IsReached}
 use Rattle.weight_frame.proofs.systems.exchanged.Given as goal
 
 abbrev pub invariant-loop-i : goal.invariant-loop-i

@@ -1,6 +1,6 @@
 use Rattle.std.proofs.Common.{take}
 use Rattle.lattice_core.specs.Weights.{weighted_all, columns_of}
-use Rattle.weight_frame.specs.Reached.{AreReached}
+use Rattle.weight_frame.specs.steps.Reached.{AreReached}
 use Rattle.weight_frame.proofs.systems.frame_vectors.Given as goal
 
 abbrev pub invariant-loop-system : goal.invariant-loop-system

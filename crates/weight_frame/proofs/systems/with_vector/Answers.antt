@@ -1,7 +1,7 @@
 use Rattle.std.proofs.Common.{◌≡◌, length, SFits, w64, sym, ap, ◌∙◌, rules}
 use Rattle.std.proofs.lemmas.Int.{to_z-of_z}
 use Rattle.lattice_core.specs.Weights.{weighted, weighted_degree}
-use Rattle.weight_frame.specs.Reached.{listed, IsStep, IsStepAbove}
+use Rattle.weight_frame.specs.steps.Reached.{listed, IsStep, IsStepAbove}
 use Rattle.weight_frame.proofs.Reaching.{vector_at, reached_at, above_at}
 use Rattle.weight_frame.proofs.systems.with_vector.Goals as goal
 

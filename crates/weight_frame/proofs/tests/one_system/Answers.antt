@@ -1,6 +1,6 @@
 use Rattle.std.proofs.Common.{◌≡◌, ◌++◌, ◌∷◌, [], true, ap, ◌∙◌}
 use Rattle.lattice_core.specs.Weights.{weighted}
-use Rattle.weight_frame.specs.Plain.{is_plain}
+use Rattle.weight_frame.specs.steps.Plain.{is_plain}
 use Rattle.weight_frame.proofs.PlainSystems.{formed_one, limited_one}
 use Rattle.weight_frame.proofs.tests.one_system.Goals as goal
 

@@ -1,6 +1,6 @@
 use Rattle.std.proofs.Common.{◌≡◌, ◌++◌, ◌∷◌, [], true, length, ap, ◌∙◌}
 use Rattle.lattice_core.specs.Weights.{weighted}
-use Rattle.weight_frame.specs.Plain.{is_plain, is_summed}
+use Rattle.weight_frame.specs.steps.Plain.{is_plain, is_summed}
 use Rattle.weight_frame.proofs.PlainSystems.{formed_two, limited_two}
 use Rattle.weight_frame.proofs.tests.two_systems.Goals as goal
 

@@ -2,7 +2,8 @@ use Rattle.std.proofs.Common.{◌≤◌, pos, negsuc, ◌-ℤ◌, SFits, w64, ru
 use Rattle.std.proofs.lemmas.Int.{to_z-of_z}
 use Rattle.std.proofs.lemmas.List.{take_all}
 use Rattle.lattice_theory.specs.Vector.{entry, scaled}
-use Rattle.weight_frame.specs.Frame.{largest, entry_limit}
+use Rattle.lattice_core.specs.declared.limits.TheConstants.{MOST_FRAME_ENTRY}
+use Rattle.weight_frame.specs.Frame.{largest}
 use Rattle.weight_frame.proofs.Largest.{largest_opposite, opposite_more, opposite_fits}
 use Rattle.weight_frame.proofs.vector.opposite.Goals as goal
 
@@ -11,14 +12,14 @@ overflow_sub-entry c =
     let x = c.entries-entry-items.result.now in
     let i = c.loop-entry.entry-index in
     let fits : SFits w64 (entry x i) = search rules in
-    let small : largest x ≤ entry_limit = rw c.entries-entry-items.ensures.value c.requires in
+    let small : largest x ≤ MOST_FRAME_ENTRY = rw c.entries-entry-items.ensures.value c.requires in
     simp to_z-of_z (opposite_fits x i small)
 
 pub loop-entry-preserved : goal.loop-entry-preserved
 loop-entry-preserved c =
     let x = c.entries-entry-items.result.now in
     let i = c.loop-entry.entry-index in
-    let small : largest x ≤ entry_limit = rw c.entries-entry-items.ensures.value c.requires in
+    let small : largest x ≤ MOST_FRAME_ENTRY = rw c.entries-entry-items.ensures.value c.requires in
     let fits : SFits w64 (entry x i) = search rules in
     let turned : SFits w64 (pos 0 -ℤ entry x i) = opposite_fits x i small in
     let items = simp to_z-of_z at c.push.ensures.items in

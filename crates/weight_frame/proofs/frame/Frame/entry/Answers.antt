@@ -2,7 +2,7 @@ use Rattle.std.proofs.Common.{◌≡◌, ◌<◌, ◌≤◌, length, get_or, nat
 use Rattle.std.specs.Int.{w128}
 use Rattle.std.proofs.lemmas.Int.{to_z-of_z}
 use Rattle.lattice_theory.specs.Vector.{entry}
-use Rattle.weight_frame.specs.Frame.{entry_limit}
+use Rattle.lattice_core.specs.declared.limits.TheConstants.{MOST_FRAME_ENTRY}
 use Rattle.weight_frame.proofs.Largest.{entry_at_most}
 use Rattle.lattice_core.specs.Weights.{weighted_all, columns_of}
 use Rattle.weight_frame.specs.Answers.{Framed}
@@ -42,5 +42,5 @@ returns-clause-bound c =
     let fits : SFits w64 (entry c.entries.result.now c.args.i) = search rules in
     let told : SFits w128 c.from.result = search rules in
     let value : c.from.result ≡ entry c.entries.result.now c.args.i = simp to_z-of_z at c.from.ensures in
-    let most : nat_abs (entry u c.args.i) ≤ entry_limit = let h = entry_at_most u c.args.i in let k = at.within in omega arith in
+    let most : nat_abs (entry u c.args.i) ≤ MOST_FRAME_ENTRY = let h = entry_at_most u c.args.i in let k = at.within in omega arith in
     simp to_z-of_z (rw (value, c.entries.ensures.value) most)

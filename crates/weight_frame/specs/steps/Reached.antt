@@ -2,7 +2,8 @@
 use Rattle.std.specs.Prelude.{◌≡◌, ℕ, ◌^◌, ◌<◌, ◌≤◌, List, [], ◌∷◌, ◌++◌, length, ℤ, Option, None, Some}
 use Rattle.lattice_theory.specs.Vector.{HaveDimension}
 use Rattle.lattice_core.specs.Weights.{Weighted, total}
-use Rattle.weight_frame.specs.Frame.{IsGreatestDivisor, Exchange, Exchanges, AreExchanged, AreUnitVectors, largest, entry_limit, AreWithinEntryLimit, IsFirstAboveLimit}
+use Rattle.lattice_core.specs.declared.limits.TheConstants.{MOST_DEGREE, MOST_FRAME_ENTRY}
+use Rattle.weight_frame.specs.Frame.{IsGreatestDivisor, Exchange, Exchanges, AreExchanged, AreUnitVectors, largest, AreWithinEntryLimit, IsFirstAboveLimit}
 
 -- vectors of n entries within the limit
 pub record AreSmallVectors (n : ℕ) (vectors : List (List ℤ)) : Type 0 where
@@ -19,7 +20,7 @@ pub record IsStep (n : ℕ) (u : List ℤ) (v : ℤ) (h : List ℤ) (after : ℕ
   pub step : Exchange n u v h after g k next
   pub divisor : (values : List ℤ) → IsGreatestDivisor values after → IsGreatestDivisor (v ∷ values) g
   pub kept : AreWithinEntryLimit k
-  pub last : largest next ≤ entry_limit
+  pub last : largest next ≤ MOST_FRAME_ENTRY
   pub small : g < 2 ^ 55
 
 -- the step at u makes a vector with an entry above the limit
@@ -39,7 +40,7 @@ pub record IsReached (n : ℕ) (system : Weighted) (us kept : List (List ℤ)) (
   pub small : AreSmallVectors n kept
   pub count : length kept ≤ length us
   pub dimension : length last ≡ n
-  pub last_within : largest last ≤ entry_limit
+  pub last_within : largest last ≤ MOST_FRAME_ENTRY
   pub small_divisor : divisor < 2 ^ 55
 
 -- what the system makes of the vectors us has a vector above the limit
@@ -61,7 +62,7 @@ pub record AreReached (n : ℕ) (systems : List Weighted) (vectors : List (List 
   pub small : AreSmallVectors n vectors
   pub count : length vectors ≤ n
 
--- a system with n weights, whose sum is at most 32,767
+-- a system with n weights, whose sum is at most the largest degree
 pub record IsUsable (n : ℕ) (system : Weighted) : Type 0 where
   pub columns : length system.weights ≡ n
-  pub small : total system.weights ≤ 32_767
+  pub small : total system.weights ≤ MOST_DEGREE

@@ -1,7 +1,8 @@
 -- The steps in which coordinates are found. This project's own.
 use Rattle.std.specs.Prelude.{◌≡◌, ◌≢◌, ℕ, ◌<◌, ◌≤◌, List, length, take, ℤ, pos}
 use Rattle.lattice_theory.specs.Vector.{entry}
-use Rattle.weight_frame.specs.Frame.{AreCoordinates, largest, coordinate_limit}
+use Rattle.lattice_core.specs.declared.limits.TheConstants.{MOST_COORDINATE}
+use Rattle.weight_frame.specs.Frame.{AreCoordinates, largest}
 
 -- the place has the first entry that isn't 0
 pub record IsFirstPlace (x : List ℤ) (place : ℕ) : Type 0 where
@@ -16,9 +17,9 @@ IsNextCoordinate vectors x found a = (c : List ℤ) → AreCoordinates (length x
 -- these are the coordinates of x, whatever they are, within the limit
 pub record AreFound (vectors : List (List ℤ)) (x found : List ℤ) : Type 0 where
   pub same : (c : List ℤ) → AreCoordinates (length x) vectors x c → c ≡ found
-  pub within : largest found ≤ coordinate_limit
+  pub within : largest found ≤ MOST_COORDINATE
   pub count : length found ≡ length vectors
 
 -- one of the coordinates of x, whatever they are, is above the limit
 abbrev pub IsLargeSomewhere : List (List ℤ) → List ℤ → Type 0
-IsLargeSomewhere vectors x = (c : List ℤ) → AreCoordinates (length x) vectors x c → coordinate_limit < largest c
+IsLargeSomewhere vectors x = (c : List ℤ) → AreCoordinates (length x) vectors x c → MOST_COORDINATE < largest c

@@ -5,8 +5,8 @@ use Rattle.lattice_theory.specs.Vector.{dot, IsVectorMultiple}
 use Rattle.lattice_theory.specs.Affine.{Affine, value, IsNonnegative}
 use Rattle.lattice_theory.specs.Facet.{IsFacet}
 use Rattle.elimination.specs.Elimination.{Member, IsCombination}
-use Rattle.hull.specs.Differences.{difference}
-use Rattle.hull.specs.Kernels.{IsPrimitiveKernel}
+use Rattle.hull.specs.steps.Differences.{difference}
+use Rattle.hull.specs.steps.Kernels.{IsPrimitiveKernel}
 
 -- the vector is the difference of one of the points and the first
 pub record IsFrom (points : List (List ℤ)) (first v : List ℤ) : Type 0 where

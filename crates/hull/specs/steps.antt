@@ -1,0 +1,4 @@
+pub mod Kernels
+pub mod Search
+pub mod Differences
+pub mod Tight
