@@ -1,12 +1,12 @@
 -- An example of a combination: x + 1 and -x - y + 1 at the point (2, 2), where they are 3 and -3, add up to -y + 2.
-use Rattle.std.proofs.Common.{◌≡◌, ℕ, zero, suc, List, [], ◌∷◌, length, ℤ, pos, negsuc, neg_ℤ, ◌+ℤ◌, ◌*ℤ◌, refl, ap₂, arith}
+use Rattle.std.proofs.Common.{◌≡◌, ℕ, zero, suc, ◌<◌, List, [], ◌∷◌, length, ℤ, pos, negsuc, neg_ℤ, ◌+ℤ◌, ◌*ℤ◌, refl, ap₂, arith}
 use Rattle.std.proofs.lemmas.List.Elements.{All-nil, All-cons, All-head, All-tail}
 use Rattle.std.proofs.lemmas.Int.{ints}
 use Rattle.lattice_theory.specs.Vector.{entry, dot}
 use Rattle.lattice_theory.specs.Affine.{Affine, value, IsMultiple}
 use Rattle.lattice_theory.proofs.Integers.{linear}
 use Rattle.lattice_theory.proofs.Divisibility.{primitive_from_combination}
-use Rattle.lattice_core.specs.Combine.{HasFixedCombination}
+use Rattle.lattice_core.specs.Combine.{IsPositiveCombination, IsCombinationAt, HasFixedCombination}
 
 abbrev first : Affine
 first = record { normal = pos 1 ∷ pos 0 ∷ []; constant = pos 1 }
@@ -56,16 +56,34 @@ entries_add zero = refl
 entries_add (suc zero) = refl
 entries_add (suc (suc i)) = refl
 
+-- the combination
+pub example_combination : IsCombinationAt first second point sum
+example_combination = record {
+  dimension = refl;
+  primitive = primitive_from_combination (pos 0 ∷ negsuc 0 ∷ []) (pos 0 ∷ negsuc 0 ∷ []) refl;
+  vanishes = refl;
+  combination = record {
+    whole = 1;
+    left = 1;
+    right = 1;
+    positive = (omega arith, omega arith, omega arith);
+    normals = entries_add;
+    constants = refl;
+  };
+}
+
+-- the difference 2x + y: its constant would be the sum of two positive numbers
+pub difference_is_none : IsPositiveCombination first second (record { normal = pos 2 ∷ pos 1 ∷ []; constant = pos 0 }) → ⊥
+difference_is_none h = never h.whole h.left h.right h.positive.1 h.constants
+  where
+    never : (w l r : ℕ) → 0 < l → pos w *ℤ pos 0 ≡ pos l *ℤ pos 1 +ℤ pos r *ℤ pos 1 → ⊥
+    never w l r p e = absurd (omega (arith, ints))
+
 -- the two functions have this combination, and the points of the line fix it
 pub example_fixed : HasFixedCombination first second point
 example_fixed = record {
   function = sum;
-  combination = record {
-    dimension = refl;
-    primitive = primitive_from_combination (pos 0 ∷ negsuc 0 ∷ []) (pos 0 ∷ negsuc 0 ∷ []) refl;
-    vanishes = refl;
-    combination = record { whole = 1; left = 1; right = 1; positive = (omega arith, omega arith, omega arith); normals = entries_add; constants = refl };
-  };
+  combination = example_combination;
   fixed = record {
     points = line;
     count = refl;

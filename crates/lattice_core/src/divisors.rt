@@ -11,7 +11,8 @@ use arrayvec::ArrayVec;
 /// The largest number that fits a machine word.
 const WORD_MAX: u128 = 0xffff_ffff_ffff_ffff;
 
-/// The greatest common divisor of two numbers: it divides both, and each number that divides both divides it. That of 0 and 0 is 0.
+/// The greatest common divisor of any two numbers of 128 bits: it divides both, and each number that divides both divides it. That of 0 and 0
+/// is 0.
 pub fn gcd(a: u128, b: u128) -> u128
     ensures { IsGcd a b result }
 {
@@ -59,8 +60,8 @@ fn common_divisor(v: &[i128]) -> u128
     divisor
 }
 
-/// The vector divided by the greatest common divisor of its entries, of which there are 1 to 6, none of them the least `i128`. It is `None`
-/// exactly where all entries are 0.
+/// The vector divided by the greatest common divisor of its entries, of which there are 1 to 6, all above -2^127. It is `None` exactly where
+/// all entries are 0.
 pub fn primitive(v: &[i128]) -> Option<ArrayVec<i128, MOST_COORDINATES>>
     requires least { 1 ≤ length v.now }
     requires most { length v.now ≤ MOST_COORDINATES }

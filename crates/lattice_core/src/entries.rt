@@ -17,7 +17,7 @@ pub(crate) fn held(entries: &[i64]) -> ArrayVec<i64, MOST_COORDINATES>
     }
 }
 
-/// The same entries in 64 bits, for vectors of at most 6 entries that fit them.
+/// The same entries in 64 bits, for a vector of at most 6 entries whose absolute values are below 2^63.
 pub fn narrowed(vector: &[i128]) -> ArrayVec<i64, MOST_COORDINATES>
     requires most { length vector.now ≤ MOST_COORDINATES }
     requires small { All (λ a. nat_abs a < 2 ^ 63) vector.now }
@@ -30,7 +30,7 @@ pub fn narrowed(vector: &[i128]) -> ArrayVec<i64, MOST_COORDINATES>
     entries
 }
 
-/// The same number in 64 bits, which it fits.
+/// The same number in 64 bits, for one whose absolute value is below 2^63.
 pub fn narrowed_entry(a: i128) -> i64
     requires { nat_abs a < 2 ^ 63 }
     ensures { result ≡ a }

@@ -32,7 +32,7 @@ pub enum LimitName {
     Degree,
     /// The product of all degrees of a weight line.
     DegreeProduct,
-    /// The size of an entry of a vector that the frame's recursion makes.
+    /// The absolute value of an entry of a vector that the frame's recursion makes.
     Frame,
     /// The dimension.
     Dim,

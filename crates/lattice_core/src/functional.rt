@@ -14,7 +14,7 @@ use std::alloc::AllocError;
 use std::cmp::Ordering;
 use std::marker::Model;
 
-/// An affine function: a normal of 1 to 6 integers, and a constant. Contracts see the record of the two.
+/// An affine function: a normal of 1 to 6 integers of 64 bits, and a constant of 128 bits. Contracts see the record of the two.
 #[derive(Debug, Drop, PartialEq, Eq, PartialOrd, Ord)]
 pub struct Functional {
     normal: ArrayVec<i64, MOST_COORDINATES>,
@@ -89,7 +89,7 @@ impl Functional {
     }
 
     /// The function's value at a point of the same dimension, for a constant of absolute value at most 2^100 and a point whose entries' absolute
-    /// values sum to at most 2^33.
+    /// values sum to at most 2^33. So it is at most 2^96 + 2^100 in absolute value.
     #[inline]
     pub fn at(&self, p: &Point) -> i128
         requires dimension { length self.now.normal ≡ length p.now }

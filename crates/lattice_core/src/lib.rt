@@ -8,6 +8,7 @@ mod ascending;
 mod combination;
 mod divisors;
 mod entries;
+mod examples;
 mod faults;
 mod functional;
 mod limits;
@@ -20,6 +21,7 @@ pub use ascending::{ascending_functions, ascending_points};
 pub use combination::combine;
 pub use divisors::{gcd, primitive};
 pub use entries::{narrowed, narrowed_entry};
+pub use examples::combination_is_an_example;
 pub use faults::{Fault, LimitName, NoMemory, Refusal};
 pub use functional::Functional;
 pub use limits::{

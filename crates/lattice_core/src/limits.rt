@@ -40,7 +40,7 @@ pub const MOST_VERTICES: usize = 128;
 pub const MOST_POINTS: usize = 16_384;
 
 /// The largest size that points with `n` coordinates may have, `n` from 1 to 6. The size is the sum over the coordinates of the largest absolute
-/// value. This project's own.
+/// value. It is at most 2^30.
 pub fn size_limit(n: usize) -> i64
     requires least { 1 ≤ n }
     requires most { n ≤ MOST_COORDINATES }
@@ -71,5 +71,25 @@ mod tests {
         ] {
             assert_eq!(rt; size_limit(n), want);
         }
+    }
+
+    #[test]
+    fn tells_each_limit(rt: HostRuntime) {
+        for (limit, want) in [
+            (MOST_SYSTEMS, 6),
+            (MOST_WEIGHTS, 12),
+            (MOST_COORDINATES, 6),
+            (MOST_MONOMIALS, 16_384),
+            (MOST_FACETS, 128),
+            (MOST_VERTICES, 128),
+            (MOST_POINTS, 16_384),
+        ] {
+            assert_eq!(rt; limit, want);
+        }
+        assert_eq!(rt; MOST_DEGREE, 32_767);
+        assert_eq!(rt; MOST_NUMBERS, 16_384);
+        assert_eq!(rt; MOST_DEGREE_PRODUCT, 1_099_511_627_776);
+        assert_eq!(rt; MOST_FRAME_ENTRY, 1_099_511_627_776);
+        assert_eq!(rt; MOST_COORDINATE, 1_073_741_824);
     }
 }

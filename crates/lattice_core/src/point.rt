@@ -12,7 +12,7 @@ use std::alloc::AllocError;
 use std::cmp::Ordering;
 use std::marker::Model;
 
-/// A point of the lattice: 1 to 6 integers. Contracts see the list of its entries.
+/// A point of the lattice: 1 to 6 integers of 64 bits. Contracts see the list of its entries.
 #[derive(Debug, Drop, PartialEq, Eq, PartialOrd, Ord)]
 pub struct Point {
     entries: ArrayVec<i64, MOST_COORDINATES>,

@@ -7,7 +7,8 @@ ghost use Rattle.lattice_core.specs.declared.limits.TheConstants.{MOST_COORDINAT
 
 use crate::Point;
 
-/// The size of points with `n` coordinates: the sum over the coordinates of the largest absolute value.
+/// The size of points with `n` coordinates, `n` at most 6: the sum over the coordinates of the largest absolute value. It is at most 6 times
+/// 2^63, and 0 where there is no point.
 pub fn size_of(n: usize, points: &[Point]) -> u128
     requires dimension { HaveDimension n points.now }
     requires most { n ≤ MOST_COORDINATES }

@@ -1,6 +1,6 @@
 //! Weight systems.
 
-/// A degree and weights, in order. Where it is well formed the degree is at least 1 and the sum of the weights.
+/// A degree and weights, in order, each a number of 64 bits. Where it is well formed the degree is at least 1 and the sum of the weights.
 #[derive(Debug, Drop, PartialEq, Eq)]
 pub struct WeightSystem {
     /// The degree.
