@@ -13,7 +13,7 @@ use Rattle.palp_words.specs.declared.job.Job.{Job}
 use Rattle.palp_input.specs.Grammar.{most_bytes, Listed, listed, TextEnd, End, FaultEnd, TooLongEnd, read_text}
 use Rattle.palp_engine.specs.Commands.{IsBuilt, AreBuilt, AreUnbuilt, Says}
 use Rattle.palp_engine.specs.Texts.{outcome_with, HaveReport, of_items, of_unbuilt, of_bad_words, no_front, front_of_items}
-use Rattle.palp_engine.specs.Runs.{HasTaken, IsText, AreUntouched, IsReported, IsBegun, IsDone, IsRefusal, IsCut, HasEnding, TellsBadWords, TellsNotBuilt, IsComplete}
+use Rattle.palp_engine.specs.Runs.{HasTaken, IsText, AreUntouched, IsReported, IsReportedInPart, IsDone, IsRefusal, IsCut, HasEnding, TellsBadWords, TellsNotBuilt, IsComplete}
 use Rattle.palp_engine.specs.RunSteps.{GivesEnd, ReportMeans, PerformedMeans, IsPerformed, AnswerMeans, IsAnswered}
 use Rattle.palp_engine.specs.ReadingSteps.{Reads, text_end}
 use Rattle.palp_engine.specs.declared.reading.Reading.{Reading}
@@ -64,8 +64,8 @@ module _ (job : Job) (source source_now : SourceState) (read : Reading) (reads :
         gives = g.gives.gives;
       }
 
-  begun : GivesFront (Says job) items out out_now → IsBegun words source source_now out out_now
-  begun g = record {
+  in_part : GivesFront (Says job) items out out_now → IsReportedInPart words source source_now out out_now
+  in_part g = record {
     text = reads.text;
     is_text = reads.is_text;
     front = g.front;
@@ -82,8 +82,8 @@ module _ (job : Job) (source source_now : SourceState) (read : Reading) (reads :
   report_means (BadText fault) m = reported (BadText fault) m
   report_means (Refused item cause) m = reported (Refused item cause) m
   report_means TextLimit m = reported TextLimit m
-  report_means WriteFault m = record { rose = m.0; begun = begun m.1 }
-  report_means NoMemory m = begun m
+  report_means WriteFault m = record { rose = m.0; in_part = in_part m.1 }
+  report_means NoMemory m = in_part m
   report_means ReadFault m = absurd m
   report_means (BadWords fault) m = absurd m
   report_means NotBuilt m = absurd m
@@ -97,23 +97,23 @@ report_performs job source source_now out out_now read outcome r m = record {
 }
 
 -- nothing was given
-nothing_begun : (words : List (List ℕ)) (source source_now : SourceState) (out : SinkState) (text : List ℕ) → IsText source source_now text
-    → IsBegun words source source_now out out
-nothing_begun words source source_now out text t =
+nothing_in_part : (words : List (List ℕ)) (source source_now : SourceState) (out : SinkState) (text : List ℕ) → IsText source source_now text
+    → IsReportedInPart words source source_now out out
+nothing_in_part words source source_now out text t =
     record { text = text; is_text = t; front = []; is_front = no_front; gives = gives_nothing out }
 
 pub nothing_performed : (job : Job) (source source_now : SourceState) (out : SinkState) → Reads (Err reading_faults.NoMemory) source source_now
     → IsPerformed job source source_now out out NoMemory
 nothing_performed job source source_now out r = record {
   taken = (r.is_text.bytes, r.is_text.have_passed);
-  means = λ words built same. nothing_begun words source source_now out r.text r.is_text;
+  means = λ words built same. nothing_in_part words source source_now out r.text r.is_text;
 }
 
 pub read_fault_performed : (job : Job) (source source_now : SourceState) (out : SinkState) → Reads (Err reading_faults.Source) source source_now
     → IsPerformed job source source_now out out ReadFault
 read_fault_performed job source source_now out r = record {
   taken = (r.is_text.bytes, r.is_text.have_passed);
-  means = λ words built same. record { rose = r.means; begun = nothing_begun words source source_now out r.text r.is_text };
+  means = λ words built same. record { rose = r.means; in_part = nothing_in_part words source source_now out r.text r.is_text };
 }
 
 -- the job's outcome is the run's
@@ -210,7 +210,7 @@ module _ (words : List (List ℕ)) (source source_now : SourceState) (out out_no
     pub is_write_fault : outcome ≡ WriteFault → IsCut words out.faults out_now.faults source source_now out out_now
     is_write_fault e = (at WriteFault e).1
 
-    pub is_no_memory : outcome ≡ NoMemory → IsBegun words source source_now out out_now
+    pub is_no_memory : outcome ≡ NoMemory → IsReportedInPart words source source_now out out_now
     is_no_memory e = (at NoMemory e).1
 
     pub source_later : source.faults ≤ source_now.faults
@@ -269,8 +269,8 @@ module _ (words : List (List ℕ)) (source source_now : SourceState) (out out_no
   later_of TextLimit m = m.1.gives.later
   later_of (BadWords fault) m = stays m.1
   later_of NotBuilt m = stays m.1
-  later_of ReadFault m = m.1.begun.gives.later
-  later_of WriteFault m = m.1.begun.gives.later
+  later_of ReadFault m = m.1.in_part.gives.later
+  later_of WriteFault m = m.1.in_part.gives.later
   later_of NoMemory m = m.1.gives.later
 
   pub out_later : (outcome : Outcome) → IsAnswered words source source_now out out_now outcome → out.faults ≤ out_now.faults

@@ -22,7 +22,7 @@ pub record HavePassed (source source_now : SourceState) (bytes : List ℕ) : Typ
 abbrev pub HasTaken : SourceState → SourceState → Type 0
 HasTaken source source_now = (bytes : List ℕ) × HavePassed source source_now bytes
 
--- the text of a run: what the source had left, where it tells that, and else the bytes that passed
+-- the text of a run: what the source had left, where it tells that; where it tells nothing, as a real stream, the bytes that passed
 abbrev pub text_of : Option (List ℕ) → List ℕ → List ℕ
 text_of (Some left) bytes = left
 text_of None bytes = bytes
@@ -46,7 +46,7 @@ pub record IsReported (words : List (List ℕ)) (source source_now : SourceState
   pub gives : GivesPieces out out_now report
 
 -- a front of the report of the words and the text was appended
-pub record IsBegun (words : List (List ℕ)) (source source_now : SourceState) (out out_now : SinkState) : Type 0 where
+pub record IsReportedInPart (words : List (List ℕ)) (source source_now : SourceState) (out out_now : SinkState) : Type 0 where
   pub text : List ℕ
   pub is_text : IsText source source_now text
   pub front : List (List ℕ)
@@ -80,10 +80,10 @@ IsRefusal ReadFault = ⊥
 IsRefusal WriteFault = ⊥
 IsRefusal NoMemory = ⊥
 
--- a stream failed: its count of faults rose, and a front of the report was appended
+-- the report was cut: this count of faults rose, and a front of the report was appended
 pub record IsCut (words : List (List ℕ)) (faults faults_now : ℕ) (source source_now : SourceState) (out out_now : SinkState) : Type 0 where
   pub rose : Rose faults faults_now
-  pub begun : IsBegun words source source_now out out_now
+  pub in_part : IsReportedInPart words source source_now out out_now
 
 -- the outcome is that of the words and the text
 pub record HasEnding (words : List (List ℕ)) (source source_now : SourceState) (outcome : Outcome) : Type 0 where

@@ -10,7 +10,7 @@ ghost use Rattle.palp_engine.specs.Notes.{note_line, IsNoted};
 ghost use Rattle.palp_engine.specs.Texts.{outcome_of};
 ghost use Rattle.palp_engine.specs.ReadingSteps.{text_end};
 ghost use Rattle.palp_engine.specs.RunSteps.{IsAnswered, IsPerformed, IsStopped, ReportMeans};
-ghost use Rattle.palp_engine.specs.Runs.{HasTaken, TellsBadWords, TellsNotBuilt, IsDone, IsRefusal, IsReported, IsCut, IsBegun, IsComplete};
+ghost use Rattle.palp_engine.specs.Runs.{HasTaken, TellsBadWords, TellsNotBuilt, IsDone, IsRefusal, IsReported, IsCut, IsReportedInPart, IsComplete};
 ghost use Rattle.palp_engine.specs.declared.outcome.Outcome.TheVariants.{Done, ReadFault, WriteFault, NoMemory};
 
 use crate::Outcome;
@@ -152,7 +152,7 @@ pub fn run<S: Source, O: Sink, N: Sink>(
     ensures write_fault { result ≡ WriteFault → IsCut (map string_bytes words.now) (O.state out.old).faults (O.state out.new).faults
         (S.state src.old) (S.state src.new) (O.state out.old) (O.state out.new) }
     ensures no_memory { result ≡ NoMemory
-        → IsBegun (map string_bytes words.now) (S.state src.old) (S.state src.new) (O.state out.old) (O.state out.new) }
+        → IsReportedInPart (map string_bytes words.now) (S.state src.old) (S.state src.new) (O.state out.old) (O.state out.new) }
 
     // Where no count of faults of the source or `out` rose, the outcome is that of the words and the text, or `NoMemory`.
     ensures completeness { IsComplete (map string_bytes words.now) result (S.state src.old) (S.state src.new) (O.state out.old) (O.state out.new) }
