@@ -1,52 +1,119 @@
 -- What the counts of facets, vertices and lattice points say of points.
-use Rattle.std.specs.Prelude.{ℤ}
-use Rattle.std.proofs.Common.{◌≡◌, ℕ, ◌<◌, ◌≤◌, List, length, arith}
+use Rattle.std.specs.Prelude.{◌↔◌, min, ℤ}
+use Rattle.std.proofs.Common.{◌≡◌, ℕ, ◌+◌, ◌<◌, ◌≤◌, List, length, arith}
 use Rattle.lattice_theory.specs.Affine.{Affine}
 use Rattle.lattice_theory.specs.Hull.{AreVertices}
-use Rattle.lattice_theory.specs.Facet.{IsFlat, AreFacets}
+use Rattle.lattice_theory.specs.Facet.{IsFlat, AreFacets, AreFacetsInAnyOrder}
+use Rattle.lattice_theory.specs.Points.{IsLatticePoint, AreLatticePoints, IsDilatePoint}
+use Rattle.lattice_core.specs.Dimensions.{dimension_of}
 use Rattle.lattice_core.specs.Limits.{IsSized}
-use Rattle.palp_engine.specs.Reports.{body_line, HaveFewVertices, HaveManyPoints, IsBodyLine}
-use Rattle.palp_engine.proofs.VertexLists.{CountsLatticePoints}
+use Rattle.lattice_core.specs.PointLists.{AreSolidPoints}
+use Rattle.lattice_core.proofs.Dimension.{dimension_is}
+use Rattle.facet_theory.specs.Solid.{AreSolid}
+use Rattle.facet_theory.proofs.LeastVertex.{facets_of_vertices_lem}
+use Rattle.facet_theory.proofs.VertexHull.{some_vertex_lem, vertices_are_solid_lem, vertices_are_small_lem, lattice_points_of_vertices_lem}
+use Rattle.facet_theory.proofs.DilateBoxes.{first_dilate_is_hull_lem}
+use Rattle.item_points.specs.Points.{AreItemPoints}
+use Rattle.point_scan.specs.Dilates.{AreDilatePoints, CountsDilatePoints}
+use Rattle.palp_engine.specs.Reports.{body_line, HaveFewFacets, HaveFewVertices, HaveManyPoints, IsBodyLine}
+
+-- the number of lattice points of points, up to a limit
+pub record CountsLatticePoints (n : ℕ) (points : List (List ℤ)) (limit counted : ℕ) : Type 0 where
+  pub lattice : List (List ℤ)
+  pub are_lattice_points : AreLatticePoints n points lattice
+  pub counted_is : counted ≡ min (length lattice) (limit + 1)
+
+-- an item's points that aren't flat
+pub item_solid : (points : List (List ℤ)) → AreItemPoints points → (IsFlat (dimension_of points) points → ⊥) → AreSolid (dimension_of points) points
+item_solid points h solid =
+    let least = h.least in
+    record { coordinates = omega (arith, least); dimension = h.sized.are_points.one_dimension; solid = solid }
+
+module _ (n : ℕ) (points vertices : List (List ℤ)) (solid : AreSolid n points) (are : AreVertices n points vertices) where
+  -- the vertices have the points' dimension
+  first : dimension_of vertices ≡ n
+  first =
+      dimension_is n vertices (some_vertex_lem n points vertices solid are.members)
+      (vertices_are_solid_lem n points vertices solid are.members).dimension
+
+  -- what a count asks of the vertices and their facets
+  pub solid_vertices : IsSized n points → AreSolidPoints vertices
+  solid_vertices small =
+      let own = vertices_are_solid_lem n points vertices solid are.members in
+      let bound = vertices_are_small_lem n points vertices are.members in
+      let some = some_vertex_lem n points vertices solid are.members in
+      record {
+        sized = record { are_points = record { some = some; one_dimension = rw first own.dimension }; within = rw first (omega (arith, bound, small)) };
+        solid = rw first own.solid;
+      }
+
+  pub vertices_facets : (facets : List Affine) → AreFacetsInAnyOrder n points facets → AreFacetsInAnyOrder (dimension_of vertices) vertices facets
+  vertices_facets facets fs = rw first (λ f.
+      let same = facets_of_vertices_lem n points vertices solid are.members f in
+      let listed = fs f in
+      (λ c. same.0 (listed.0 c), λ h. listed.1 (same.1 h)))
+
+  -- the lattice points of the vertices, taken once, are those of the points
+  lattice_once : (x : List ℤ) → IsDilatePoint n vertices 1 x ↔ IsLatticePoint n points x
+  lattice_once x =
+      let once = first_dilate_is_hull_lem n vertices (vertices_are_solid_lem n points vertices solid are.members) x in
+      let same = lattice_points_of_vertices_lem n points vertices solid are.members x in
+      (λ d. same.1 (once.0 d), λ p. once.1 (same.0 p))
+
+  lattice_of_vertices : (lattice : List (List ℤ)) → AreDilatePoints n vertices 1 lattice → AreLatticePoints n points lattice
+  lattice_of_vertices lattice ls = record {
+    ascends = ls.ascends;
+    members = λ x.
+        let same = lattice_once x in
+        let listed = ls.members x in
+        (λ c. same.0 (listed.0 c), λ h. listed.1 (same.1 h));
+  }
+
+  pub counts_lattice : (limit counted : ℕ) → CountsDilatePoints (dimension_of vertices) vertices 1 limit counted
+      → CountsLatticePoints n points limit counted
+  counts_lattice limit counted c = record {
+    lattice = c.lattice;
+    are_lattice_points = lattice_of_vertices c.lattice (rw first at c.are_dilate_points);
+    counted_is = c.counted_is;
+  }
 
 -- the facets and vertices of points that passed the steps before the lattice points
 pub record ArePassed (n : ℕ) (points : List (List ℤ)) (facets : List Affine) (vertices : List (List ℤ)) : Type 0 where
-  pub dimension : n ≤ 6
-  pub small : IsSized n points
   pub solid : IsFlat n points → ⊥
   pub are_facets : AreFacets n points facets
   pub few_facets : length facets ≤ 128
   pub are_vertices : AreVertices n points vertices
   pub few_vertices : length vertices ≤ 128
 
-abbrev pub passed : (n : ℕ) (points : List (List ℤ)) (facets : List Affine) (vertices : List (List ℤ)) → ArePassed n points facets vertices → HaveFewVertices n points
-passed n points facets vertices p = record {
-  faces = record { full = record { sized = record { dimension = p.dimension; small = p.small }; solid = p.solid }; facets = facets; are_facets = p.are_facets; few = p.few_facets };
-  vertices = vertices;
-  are_vertices = p.are_vertices;
-  few = p.few_vertices;
-}
+module _ (n : ℕ) (points : List (List ℤ)) (facets : List Affine) (vertices : List (List ℤ)) (p : ArePassed n points facets vertices) where
+  abbrev pub few_faces : HaveFewFacets n points
+  few_faces = record { solid = p.solid; facets = facets; are_facets = p.are_facets; few = p.few_facets }
 
--- more lattice points than an item may have
-pub many_counted : (n : ℕ) (points : List (List ℤ)) (counted told : ℕ) → HaveFewVertices n points → CountsLatticePoints n points 16384 counted → 16384 < counted → told ≡ counted
-    → HaveManyPoints n points told
-many_counted n points counted told polytope counts many is = record {
-  polytope = polytope;
-  lattice = counts.lattice;
-  are_lattice_points = counts.are_lattice_points;
-  many = let e = counts.counted_is in omega arith;
-  told_is = let e = counts.counted_is in omega arith;
-}
+  abbrev pub passed : HaveFewVertices n points
+  passed = record { faces = few_faces; vertices = vertices; are_vertices = p.are_vertices; few = p.few_vertices }
 
--- the line of points with few lattice points
-pub few_counted : (n : ℕ) (points : List (List ℤ)) (facets : List Affine) (vertices : List (List ℤ)) (counted : ℕ) (line : List ℕ) → ArePassed n points facets vertices
-    → CountsLatticePoints n points 16384 counted → counted ≤ 16384 → line ≡ body_line counted (length vertices) (length facets) → IsBodyLine n points line
-few_counted n points facets vertices counted line p counts few written =
-    let e = counts.counted_is in
-    let all : length counts.lattice ≡ counted = omega arith in
-    record {
-      polytope = passed n points facets vertices p;
-      lattice = counts.lattice;
-      are_lattice_points = counts.are_lattice_points;
-      few = omega arith;
-      written = rw all written;
-    }
+  module _ (counted : ℕ) (counts : CountsLatticePoints n points 16384 counted) where
+    -- more lattice points than an item may have
+    pub many_counted : (told : ℕ) → 16384 < counted → told ≡ counted → HaveManyPoints n points told
+    many_counted told many is =
+        let e = counts.counted_is in
+        record {
+          polytope = passed;
+          lattice = counts.lattice;
+          are_lattice_points = counts.are_lattice_points;
+          many = omega arith;
+          told_is = omega arith;
+        }
+
+    -- the line of points with few lattice points
+    pub few_counted : (line : List ℕ) → counted ≤ 16384 → line ≡ body_line counted (length vertices) (length facets) → IsBodyLine n points line
+    few_counted line few written =
+        let e = counts.counted_is in
+        let all : length counts.lattice ≡ counted = omega arith in
+        record {
+          polytope = passed;
+          lattice = counts.lattice;
+          are_lattice_points = counts.are_lattice_points;
+          few = omega arith;
+          written = rw all written;
+        }

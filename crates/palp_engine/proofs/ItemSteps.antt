@@ -1,5 +1,6 @@
 -- Giving the one piece of an item.
 use Rattle.std.proofs.Common.{ℕ, ◌≤◌, List, [], ◌∷◌, Err, sym, subst, refl}
+use Rattle.lattice_core.specs.Stops.{Stops}
 use Rattle.lattice_core.specs.declared.faults.Refusal.{Refusal}
 use Rattle.lattice_core.specs.declared.faults.Fault.{Fault}
 use Rattle.lattice_core.specs.declared.faults.Fault.TheVariants as faults
@@ -9,10 +10,9 @@ use Rattle.report_theory.specs.Giving.{GivesItem, GivesFront}
 use Rattle.report_theory.proofs.Givings.{item_nothing, item_piece, item_closed, item_front, item_part}
 use Rattle.palp_words.specs.declared.job.Job.{Job}
 use Rattle.palp_input.specs.Grammar.{Listed}
-use Rattle.palp_engine.specs.Stops.{StopsItem, IsItemStop}
 use Rattle.palp_engine.specs.Items.{IsPiece, IsItemRefused}
 use Rattle.palp_engine.specs.Commands.{IsBuilt, PlainSays, line, whole, refused, Says}
-use Rattle.palp_engine.specs.Sessions.{ItemMeans}
+use Rattle.palp_engine.specs.Sessions.{ItemMeans, IsItemStop}
 use Rattle.palp_engine.specs.declared.session.ItemFault.{ItemFault}
 
 -- the job that is built says what `poly -n` says
@@ -28,7 +28,7 @@ module _ (job : Job) (built : IsBuilt job) (item : Listed) (out : SinkState) whe
   no_piece = item_front (Says job) out out item 0 (item_nothing (Says job) out item)
 
   -- an item that stops
-  pub stopped_item : (fault : Fault) (told : ItemFault) → StopsItem item fault → IsItemStop fault told → ItemMeans (Err told) job item out out
+  pub stopped_item : (fault : Fault) (told : ItemFault) → Stops (IsItemRefused item) fault → IsItemStop fault told → ItemMeans (Err told) job item out out
   stopped_item (faults.Refused cause) told s e = subst (λ (t : ItemFault). ItemMeans (Err t) job item out out) (sym e) (refused_item cause s)
   stopped_item faults.NoMemory told s e = subst (λ (t : ItemFault). ItemMeans (Err t) job item out out) (sym e) no_piece
 

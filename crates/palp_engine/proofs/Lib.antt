@@ -1,13 +1,8 @@
-pub mod VertexLists
 pub mod CountedPoints
-pub mod MatrixPoints
 pub mod SingleAnswers
 pub mod HullStops
-pub mod SingleWeights
 pub mod SingleItems
 pub mod SingleReports
-pub mod LineNumbers
-pub mod WeightWalks
 pub mod TextReadings
 pub mod ItemSteps
 pub mod ReportSteps

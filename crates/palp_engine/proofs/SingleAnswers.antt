@@ -9,10 +9,9 @@ use Rattle.lattice_theory.proofs.Orders.{lex_asymmetric, function_asymmetric}
 use Rattle.lattice_theory.proofs.Unique.{lists_unique}
 use Rattle.lattice_theory.proofs.FlatUnique.{flat_function_unique}
 use Rattle.lattice_core.specs.declared.faults.Refusal.TheVariants.{Flat, Limit}
-use Rattle.lattice_core.specs.declared.faults.LimitName.TheVariants.{Size, Facets, Vertices, Points}
+use Rattle.lattice_core.specs.declared.faults.LimitName.TheVariants.{Facets, Vertices, Points}
 use Rattle.hull.specs.Faults.{HasManyFacets, HasManyVertices}
-use Rattle.palp_engine.specs.Reports.{body_line, AreSized, AreFull, HaveFewFacets, HaveFewVertices, AreLarge}
-use Rattle.palp_engine.specs.Reports.{large, flat, many_facets, many_vertices, many_points}
+use Rattle.palp_engine.specs.Reports.{body_line, HaveFewFacets, HaveFewVertices, flat, many_facets, many_vertices, many_points}
 use Rattle.palp_engine.specs.Laws.{OneLine, OneRefusal, LineOrRefusal}
 
 -- lattice points, vertices and facets are listed in one way
@@ -31,11 +30,8 @@ flat_from_function : (n : ℕ) (points : List (List ℤ)) (f : Affine) → IsFla
 flat_from_function n points f h = record { function = f; dimension = h.dimension; nonconstant = (h.place, h.ends.nonzero); vanishes = h.vanishes }
 
 -- what is refused at one step has passed the steps before
-large_or_small : (n told : ℕ) (points : List (List ℤ)) → AreLarge n points told → AreSized n points → ⊥
-large_or_small n told points l s = let a = l.large in let b = s.small in omega arith
-
-flat_or_full : (n : ℕ) (points : List (List ℤ)) (f : Affine) → IsFlatFunction n points f → AreFull n points → ⊥
-flat_or_full n points f h full = full.solid (flat_from_function n points f h)
+flat_or_solid : (n : ℕ) (points : List (List ℤ)) (f : Affine) → IsFlatFunction n points f → (IsFlat n points → ⊥) → ⊥
+flat_or_solid n points f h solid = solid (flat_from_function n points f h)
 
 many_or_few_facets : (n told : ℕ) (points : List (List ℤ)) → HasManyFacets n points told → HaveFewFacets n points → ⊥
 many_or_few_facets n told points m f =
@@ -62,45 +58,28 @@ same_vertices n told other points a b =
     a.count ∙ (ap length (lists_unique LexLess lex_asymmetric _ _ _ a.are_vertices b.are_vertices) ∙ sym b.count)
 
 pub one_refusal : OneRefusal
-one_refusal n points _ _ some (large {told = told} a) (large {told = other} b) = ap (Limit Size) (a.told_is ∙ sym b.told_is)
-one_refusal n points _ _ some (large {told = told} a) (flat {f = g} t b) = absurd (large_or_small n told points a t)
-one_refusal n points _ _ some (large {told = told} a) (many_facets {told = other} y b) = absurd (large_or_small n told points a y.sized)
-one_refusal n points _ _ some (large {told = told} a) (many_vertices {told = other} y b) = absurd (large_or_small n told points a y.full.sized)
-one_refusal n points _ _ some (large {told = told} a) (many_points {told = other} b) =
-    absurd (large_or_small n told points a b.polytope.faces.full.sized)
-one_refusal n points _ _ some (flat {f = f} s a) (large {told = other} b) = absurd (large_or_small n other points b s)
-one_refusal n points _ _ some (flat {f = f} s a) (flat {f = g} t b) =
-    let p = first_point points some in ap Flat (flat_function_unique n points p.0 f g p.1 a b)
-one_refusal n points _ _ some (flat {f = f} s a) (many_facets {told = other} y b) = absurd (flat_or_full n points f a y)
-one_refusal n points _ _ some (flat {f = f} s a) (many_vertices {told = other} y b) = absurd (flat_or_full n points f a y.full)
-one_refusal n points _ _ some (flat {f = f} s a) (many_points {told = other} b) = absurd (flat_or_full n points f a b.polytope.faces.full)
-one_refusal n points _ _ some (many_facets {told = told} x a) (large {told = other} b) = absurd (large_or_small n other points b x.sized)
-one_refusal n points _ _ some (many_facets {told = told} x a) (flat {f = g} t b) = absurd (flat_or_full n points g b x)
+one_refusal n points _ _ some (flat {f = f} a) (flat {f = g} b) = let p = first_point points some in ap Flat (flat_function_unique n points p.0 f g p.1 a b)
+one_refusal n points _ _ some (flat {f = f} a) (many_facets y b) = absurd (flat_or_solid n points f a y)
+one_refusal n points _ _ some (flat {f = f} a) (many_vertices y b) = absurd (flat_or_solid n points f a y.solid)
+one_refusal n points _ _ some (flat {f = f} a) (many_points b) = absurd (flat_or_solid n points f a b.polytope.faces.solid)
+one_refusal n points _ _ some (many_facets x a) (flat {f = g} b) = absurd (flat_or_solid n points g b x)
 one_refusal n points _ _ some (many_facets {told = told} x a) (many_facets {told = other} y b) = ap (Limit Facets) (same_facets n told other points a b)
-one_refusal n points _ _ some (many_facets {told = told} x a) (many_vertices {told = other} y b) = absurd (many_or_few_facets n told points a y)
-one_refusal n points _ _ some (many_facets {told = told} x a) (many_points {told = other} b) =
-    absurd (many_or_few_facets n told points a b.polytope.faces)
-one_refusal n points _ _ some (many_vertices {told = told} x a) (large {told = other} b) = absurd (large_or_small n other points b x.full.sized)
-one_refusal n points _ _ some (many_vertices {told = told} x a) (flat {f = g} t b) = absurd (flat_or_full n points g b x.full)
-one_refusal n points _ _ some (many_vertices {told = told} x a) (many_facets {told = other} y b) = absurd (many_or_few_facets n other points b x)
+one_refusal n points _ _ some (many_facets {told = told} x a) (many_vertices y b) = absurd (many_or_few_facets n told points a y)
+one_refusal n points _ _ some (many_facets {told = told} x a) (many_points b) = absurd (many_or_few_facets n told points a b.polytope.faces)
+one_refusal n points _ _ some (many_vertices x a) (flat {f = g} b) = absurd (flat_or_solid n points g b x.solid)
+one_refusal n points _ _ some (many_vertices x a) (many_facets {told = other} y b) = absurd (many_or_few_facets n other points b x)
 one_refusal n points _ _ some (many_vertices {told = told} x a) (many_vertices {told = other} y b) =
     ap (Limit Vertices) (same_vertices n told other points a b)
-one_refusal n points _ _ some (many_vertices {told = told} x a) (many_points {told = other} b) =
-    absurd (many_or_few_vertices n told points a b.polytope)
-one_refusal n points _ _ some (many_points {told = told} a) (large {told = other} b) =
-    absurd (large_or_small n other points b a.polytope.faces.full.sized)
-one_refusal n points _ _ some (many_points {told = told} a) (flat {f = g} t b) = absurd (flat_or_full n points g b a.polytope.faces.full)
-one_refusal n points _ _ some (many_points {told = told} a) (many_facets {told = other} y b) =
-    absurd (many_or_few_facets n other points b a.polytope.faces)
-one_refusal n points _ _ some (many_points {told = told} a) (many_vertices {told = other} y b) =
-    absurd (many_or_few_vertices n other points b a.polytope)
-one_refusal n points _ _ some (many_points {told = told} a) (many_points {told = other} b) = ap (Limit Points) (a.told_is ∙ sym b.told_is)
+one_refusal n points _ _ some (many_vertices {told = told} x a) (many_points b) = absurd (many_or_few_vertices n told points a b.polytope)
+one_refusal n points _ _ some (many_points a) (flat {f = g} b) = absurd (flat_or_solid n points g b a.polytope.faces.solid)
+one_refusal n points _ _ some (many_points a) (many_facets {told = other} y b) = absurd (many_or_few_facets n other points b a.polytope.faces)
+one_refusal n points _ _ some (many_points a) (many_vertices {told = other} y b) = absurd (many_or_few_vertices n other points b a.polytope)
+one_refusal n points _ _ some (many_points a) (many_points b) = ap (Limit Points) (a.told_is ∙ sym b.told_is)
 
 pub line_or_refusal : LineOrRefusal
-line_or_refusal n points line _ l (large {told = told} r) = large_or_small n told points r l.polytope.faces.full.sized
-line_or_refusal n points line _ l (flat {f = f} s r) = flat_or_full n points f r l.polytope.faces.full
+line_or_refusal n points line _ l (flat {f = f} r) = flat_or_solid n points f r l.polytope.faces.solid
 line_or_refusal n points line _ l (many_facets {told = told} x r) = many_or_few_facets n told points r l.polytope.faces
 line_or_refusal n points line _ l (many_vertices {told = told} x r) = many_or_few_vertices n told points r l.polytope
-line_or_refusal n points line _ l (many_points {told = told} r) =
+line_or_refusal n points line _ l (many_points r) =
     let lattice = ap length (lists_unique LexLess lex_asymmetric _ _ _ l.are_lattice_points r.are_lattice_points) in
     omega (arith, l.few, r.many, lattice)

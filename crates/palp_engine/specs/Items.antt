@@ -2,33 +2,22 @@
 use Rattle.std.specs.Prelude.{◌≡◌, ◌⊎◌, ℕ, List, [], ◌∷◌, ◌++◌, ℤ, codes}
 use Rattle.std.specs.Fmt.{decimal}
 use Rattle.std.specs.List.{flat_map}
+use Rattle.lattice_core.specs.Dimensions.{dimension_of}
 use Rattle.lattice_core.specs.Weights.{Weighted}
 use Rattle.lattice_core.specs.declared.faults.Refusal.{Refusal}
 use Rattle.palp_input.specs.Grammar.{Listed, ListedWeights, ListedPoints}
-use Rattle.palp_engine.specs.Matrices.{AreMatrixPoints, IsMatrixRefusal}
-use Rattle.palp_engine.specs.WeightLines.{AreWeightPoints, IsWeightRefusal}
+use Rattle.item_points.specs.Points.{HasPoints, IsPointsRefusal}
 use Rattle.palp_engine.specs.Reports.{IsBodyLine, IsRefused}
-
--- an item that is within the limits before its points' hull has these points, of dimension n
-abbrev pub HasPoints : Listed → ℕ → List (List ℤ) → Type 0
-HasPoints (ListedWeights systems) n points = AreWeightPoints systems n points
-HasPoints (ListedPoints lines columns entries) n points = AreMatrixPoints lines columns entries n points
-
--- why an item is refused before its points' hull
-abbrev pub IsInputRefusal : Listed → Refusal → Type 0
-IsInputRefusal (ListedWeights systems) cause = IsWeightRefusal systems cause
-IsInputRefusal (ListedPoints lines columns entries) cause = IsMatrixRefusal lines columns cause
 
 -- why an item with points is refused
 pub record IsHullRefusal (item : Listed) (cause : Refusal) : Type 0 where
-  pub n : ℕ
   pub points : List (List ℤ)
-  pub has_points : HasPoints item n points
-  pub refused : IsRefused n points cause
+  pub has_points : HasPoints item points
+  pub refused : IsRefused (dimension_of points) points cause
 
--- why an item is refused
+-- why an item is refused: it has no points within the limits, or these are refused
 abbrev pub IsItemRefused : Listed → Refusal → Type 0
-IsItemRefused item cause = IsInputRefusal item cause ⊎ IsHullRefusal item cause
+IsItemRefused item cause = IsPointsRefusal item cause ⊎ IsHullRefusal item cause
 
 -- the numbers of a weight line, in order: each degree with its weights behind it
 abbrev pub line_numbers : List Weighted → List ℕ
@@ -45,9 +34,8 @@ echo (ListedPoints lines columns entries) = []
 
 -- the item isn't refused, and this is its piece of the report
 pub record IsPiece (item : Listed) (piece : List ℕ) : Type 0 where
-  pub n : ℕ
   pub points : List (List ℤ)
-  pub has_points : HasPoints item n points
+  pub has_points : HasPoints item points
   pub line : List ℕ
-  pub is_line : IsBodyLine n points line
+  pub is_line : IsBodyLine (dimension_of points) points line
   pub written : piece ≡ echo item ++ line

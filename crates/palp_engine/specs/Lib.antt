@@ -1,9 +1,5 @@
-pub mod Limits
-pub mod Matrices
-pub mod WeightLines
 pub mod Reports
 pub mod Items
-pub mod Stops
 pub mod Commands
 pub mod Texts
 pub mod Statuses

@@ -1,5 +1,7 @@
 -- What the report of one item answers. This project's own.
-use Rattle.std.specs.Prelude.{[], ◌∷◌, Result, Ok, Err}
+use Rattle.std.specs.Prelude.{◌≡◌, [], ◌∷◌, Result, Ok, Err}
+use Rattle.lattice_core.specs.declared.faults.Fault.{Fault}
+use Rattle.lattice_core.specs.declared.faults.Fault.TheVariants as stops
 use Rattle.palp_io.specs.Faults.{Rose}
 use Rattle.palp_io.specs.Sink.{SinkState}
 use Rattle.report_theory.specs.Report.{Whole, Ends}
@@ -17,3 +19,8 @@ ItemMeans (Ok done) job item before now = GivesItem (Says job) item Whole before
 ItemMeans (Err (faults.Refused cause)) job item before now = GivesItem (Says job) item (Ends cause) before now
 ItemMeans (Err faults.Write) job item before now = Rose before.faults now.faults × GivesFront (Says job) (item ∷ []) before now
 ItemMeans (Err faults.NoMemory) job item before now = GivesFront (Says job) (item ∷ []) before now
+
+-- a fault of the work on an item, as the fault of its report
+abbrev pub IsItemStop : Fault → ItemFault → Type 0
+IsItemStop (stops.Refused cause) fault = fault ≡ faults.Refused cause
+IsItemStop stops.NoMemory fault = fault ≡ faults.NoMemory

@@ -1,21 +1,18 @@
 //! A session, and the report of one item.
 
-ghost use Rattle.std.specs.Prelude.{◌≡◌, ◌++◌, ◌<◌, ◌≤◌, IfOk, OnOk, MatchResult, length};
-ghost use Rattle.lattice_theory.specs.Vector.{HaveDimension};
-ghost use Rattle.lattice_core.specs.Dimensions.{dimension_of};
+ghost use Rattle.std.specs.Prelude.{◌≡◌, ◌++◌, OnOk, MatchResult};
+ghost use Rattle.lattice_core.specs.Stops.{Stops};
 ghost use Rattle.lattice_core.specs.Weights.{weighted_all};
 ghost use Rattle.palp_input.specs.Grammar.{listed};
 ghost use Rattle.palp_input.specs.Items.{IsItem};
 ghost use Rattle.palp_engine.specs.Commands.{IsBuilt};
-ghost use Rattle.palp_engine.specs.Items.{HasPoints, IsPiece, echo, line_numbers, numbers_text};
-ghost use Rattle.palp_engine.specs.Stops.{StopsInput, StopsItem};
+ghost use Rattle.palp_engine.specs.Items.{IsPiece, IsItemRefused, echo, line_numbers, numbers_text};
 ghost use Rattle.palp_engine.specs.Sessions.{ItemMeans};
 
-use crate::matrices::matrix_points;
 use crate::polytopes::body_of;
-use crate::weights::weight_points;
+use item_points::points_of_item;
 use itoa::Buffer;
-use lattice_core::{Fault, NoMemory, Point, Refusal, WeightSystem};
+use lattice_core::{Fault, NoMemory, Refusal, WeightSystem};
 use palp_input::Item;
 use palp_io::{Gave, Sink};
 use palp_words::Job;
@@ -34,7 +31,7 @@ pub enum ItemFault {
 }
 
 impl From<Fault> for ItemFault {
-    ghost use Rattle.palp_engine.specs.Stops.{IsItemStop};
+    ghost use Rattle.palp_engine.specs.Sessions.{IsItemStop};
 
     ghost from_gives = { λ fault item. IsItemStop fault item };
 
@@ -102,29 +99,14 @@ fn put_echo(page: &mut Vec<u8>, item: &Item) -> Result<(), NoMemory>
     }
 }
 
-/// The points of an item, or its refusal.
-fn points_of(alloc: Global, item: &Item) -> Result<Vec<Point>, Fault>
-    requires { IsItem (listed item.now) }
-    ensures points { MatchResult result (λ points. HasPoints (listed item.now) (dimension_of points.items) points.items) (StopsInput (listed item.now)) }
-    ensures some { IfOk result (λ points. 0 < length points.items) }
-    ensures least { IfOk result (λ points. 1 ≤ dimension_of points.items) }
-    ensures most { IfOk result (λ points. dimension_of points.items ≤ 6) }
-    ensures dimension { IfOk result (λ points. HaveDimension (dimension_of points.items) points.items) }
-{
-    match item {
-        Item::Weights(systems) => weight_points(alloc, systems),
-        Item::Points(matrix) => matrix_points(alloc, matrix),
-    }
-}
-
 /// Writes the piece of an item on a page, in place of what stood there, or answers its refusal.
 fn write_piece(alloc: Global, page: &mut Vec<u8>, item: &Item) -> Result<(), Fault>
     requires { IsItem (listed item.now) }
-    ensures { MatchResult result (λ _. IsPiece (listed item.now) page.new.items) (StopsItem (listed item.now)) }
+    ensures { MatchResult result (λ _. IsPiece (listed item.now) page.new.items) (Stops (IsItemRefused (listed item.now))) }
 {
     page.clear();
     put_echo(page, item)?;
-    let points = points_of(alloc, item)?;
+    let points = points_of_item(alloc, item)?;
     let line = body_of(alloc, &points)?;
     page.extend_from_slice(line.as_slice())?;
     Ok(())

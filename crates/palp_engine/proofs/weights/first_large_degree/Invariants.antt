@@ -1,7 +1,0 @@
-use Rattle.std.proofs.Common.{◌≡◌, drop}
-use Rattle.lattice_core.specs.Weights.{weighted_all}
-use Rattle.palp_engine.specs.WeightLines.{first_large_degree}
-use Rattle.palp_engine.proofs.weights.first_large_degree.Given as goal
-
-abbrev pub invariant-loop-system : goal.invariant-loop-system
-invariant-loop-system l = first_large_degree (weighted_all l.systems) ≡ first_large_degree (weighted_all (drop l.system-index l.systems))
