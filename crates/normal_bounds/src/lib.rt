@@ -7,9 +7,9 @@
 //! Its central theorem: a function that is fixed by n points of size S has normal entries of at most (2S)^(n-1) (`normal_bound`).
 #![tactic(auto)]
 
+pub mod absolute_sums;
 pub mod bounds;
 mod examples;
 pub mod fits;
-pub mod absolute_sums;
 
 pub use examples::two_points_are_an_example;
