@@ -86,8 +86,3 @@ pub fn count_to(
         }
     }
 }
-
-#[cfg(test)]
-mod agreement;
-#[cfg(test)]
-mod tests;

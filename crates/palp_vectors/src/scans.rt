@@ -1,12 +1,11 @@
 //! Scans and counts of small polytopes.
 
-ghost use Rattle.std.specs.Prelude.{◌<◌, ◌≤◌, length, IsTrue};
-ghost use Rattle.lattice_theory.specs.Vector.{HaveDimension};
-ghost use Rattle.lattice_core.specs.Dimensions.{dimension_of};
+ghost use Rattle.std.specs.Prelude.{◌≤◌, IsTrue};
+ghost use Rattle.lattice_core.specs.PointLists.{ArePoints};
 
-use crate::{count_to, scan};
 use hull::facets_of;
 use lattice_core::{Fault, LimitName, NoMemory, Point, Refusal};
+use point_scan::{count_to, scan};
 use std::alloc::Global;
 use std::test::Fail;
 
@@ -22,9 +21,8 @@ fn points_of<const N: usize>(alloc: Global, entries: &[[i64; N]]) -> Result<Vec<
 }
 
 /// Whether there is a point, and all have as many coordinates as the first.
-pub(super) fn have_one_dimension(points: &[Point]) -> bool
-    ensures some { IsTrue result → 0 < length points.now }
-    ensures dimension { IsTrue result → HaveDimension (dimension_of points.now) points.now }
+pub(crate) fn are_points(points: &[Point]) -> bool
+    ensures { IsTrue result → ArePoints points.now }
 {
     if points.is_empty() {
         return false;
@@ -34,23 +32,21 @@ pub(super) fn have_one_dimension(points: &[Point]) -> bool
 }
 
 /// The lattice points, by the facets that are found.
-pub(super) fn scan_of(alloc: Global, vertices: &[Point]) -> Result<Vec<Point>, Fault>
-    requires some { 0 < length vertices.now }
-    requires dimension { HaveDimension (dimension_of vertices.now) vertices.now }
+pub(crate) fn scan_of(alloc: Global, vertices: &[Point]) -> Result<Vec<Point>, Fault>
+    requires vertices { ArePoints vertices.now }
 {
     let facets = facets_of(alloc, vertices)?;
     scan(alloc, vertices, &facets)
 }
 
 /// The number of lattice points of a dilate, by the facets that are found.
-pub(super) fn count_of(
+pub(crate) fn count_of(
     alloc: Global,
     vertices: &[Point],
     dilate: u32,
     limit: u64,
 ) -> Result<u64, Fault>
-    requires some { 0 < length vertices.now }
-    requires dimension { HaveDimension (dimension_of vertices.now) vertices.now }
+    requires vertices { ArePoints vertices.now }
     requires dilate { dilate ≤ 7 }
     requires limit { limit ≤ 16_384 }
 {
@@ -60,7 +56,7 @@ pub(super) fn count_of(
 
 fn scanned<const N: usize>(alloc: Global, entries: &[[i64; N]]) -> Result<Vec<Point>, Fault> {
     let vertices = points_of(alloc, entries)?;
-    if !have_one_dimension(&vertices) {
+    if !are_points(&vertices) {
         return Ok(Vec::new(alloc));
     }
     scan_of(alloc, &vertices)
@@ -76,7 +72,7 @@ fn counted<const N: usize>(
     requires limit { limit ≤ 100 }
 {
     let vertices = points_of(alloc, entries)?;
-    if !have_one_dimension(&vertices) {
+    if !are_points(&vertices) {
         return Ok(0);
     }
     count_of(alloc, &vertices, dilate, limit)

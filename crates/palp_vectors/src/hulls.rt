@@ -1,15 +1,14 @@
 //! The calls on hulls and on lattice points agree with each other on small lists of points in each dimension.
 
-ghost use Rattle.std.specs.Prelude.{◌≡◌, ◌+◌, ◌<◌, ◌≤◌, length, IfOk, OnOk, IfSome};
-ghost use Rattle.lattice_theory.specs.Vector.{HaveDimension};
-ghost use Rattle.lattice_theory.specs.Facet.{AreFacetsInAnyOrder, IsFlat};
-ghost use Rattle.lattice_core.specs.Limits.{IsSized};
+ghost use Rattle.std.specs.Prelude.{◌≡◌, ◌+◌, ◌≤◌, length, IfOk, OnOk, IfSome};
+ghost use Rattle.lattice_theory.specs.Facet.{AreFacetsInAnyOrder};
 ghost use Rattle.lattice_core.specs.Dimensions.{dimension_of};
+ghost use Rattle.lattice_core.specs.PointLists.{ArePoints, AreSolidPoints};
 
-use super::tests::{count_of, have_one_dimension, scan_of};
-use crate::scan;
+use crate::scans::{are_points, count_of, scan_of};
 use hull::{HullBuilder, facets_of, vertices_of};
 use lattice_core::{Fault, Functional, NoMemory, Point, Refusal, ascending_functions};
+use point_scan::scan;
 use std::alloc::Global;
 use std::test::Fail;
 
@@ -113,8 +112,7 @@ fn copies(alloc: Global, functions: &[Functional]) -> Result<Vec<Functional>, No
 /// Whether the builder of these points has the facets that are found for them at once.
 fn has_facets(alloc: Global, builder: &HullBuilder, points: &[Point]) -> Result<bool, Fault>
     requires same { builder.now.points ≡ points.now }
-    requires some { 0 < length points.now }
-    requires dimension { HaveDimension (dimension_of points.now) points.now }
+    requires points { ArePoints points.now }
 {
     let facets = facets_of(alloc, points)?;
     let mut found = copies(alloc, builder.facets())?;
@@ -124,7 +122,7 @@ fn has_facets(alloc: Global, builder: &HullBuilder, points: &[Point]) -> Result<
 
 /// The builder that is given the points one by one. It is `None` where its facets are others than those found at once for the points so far.
 fn built(alloc: Global, points: &[Point], count: usize) -> Result<Option<HullBuilder>, Fault>
-    requires dimension { HaveDimension (dimension_of points.now) points.now }
+    requires points { ArePoints points.now }
     requires count { count ≡ dimension_of points.now + 1 }
     requires enough { count ≤ length points.now }
     ensures { IfOk result (λ built. IfSome built (λ b. b.points ≡ points.now)) }
@@ -150,10 +148,7 @@ fn lead_to(
     vertices: &[Point],
     lattice: usize,
 ) -> Result<bool, Fault>
-    requires some { 0 < length points.now }
-    requires dimension { HaveDimension (dimension_of points.now) points.now }
-    requires within { IsSized (dimension_of points.now) points.now }
-    requires solid { IsFlat (dimension_of points.now) points.now → ⊥ }
+    requires points { AreSolidPoints points.now }
     requires facets { AreFacetsInAnyOrder (dimension_of points.now) points.now facets.now }
 {
     let found = vertices_of(alloc, points, facets)?;
@@ -170,10 +165,7 @@ fn lead_in_any_order(
     lattice: usize,
 ) -> Result<bool, Fault>
     requires same { builder.now.points ≡ points.now }
-    requires some { 0 < length points.now }
-    requires dimension { HaveDimension (dimension_of points.now) points.now }
-    requires within { IsSized (dimension_of points.now) points.now }
-    requires solid { IsFlat (dimension_of points.now) points.now → ⊥ }
+    requires points { AreSolidPoints points.now }
 {
     let mut facets = copies(alloc, builder.facets())?;
     facets.reverse();
@@ -190,10 +182,7 @@ fn grows_to(
     vertices: &[Point],
     lattice: usize,
 ) -> Result<bool, Fault>
-    requires some { 0 < length points.now }
-    requires dimension { HaveDimension (dimension_of points.now) points.now }
-    requires within { IsSized (dimension_of points.now) points.now }
-    requires solid { IsFlat (dimension_of points.now) points.now → ⊥ }
+    requires points { AreSolidPoints points.now }
 {
     let count = points[0].dim() + 1;
     if points.len() < count {
@@ -207,10 +196,8 @@ fn grows_to(
 
 /// The facets and the vertices.
 fn hull_of(alloc: Global, points: &[Point]) -> Result<(Vec<Functional>, Vec<Point>), Fault>
-    requires some { 0 < length points.now }
-    requires dimension { HaveDimension (dimension_of points.now) points.now }
-    ensures within { OnOk result (IsSized (dimension_of points.now) points.now) }
-    ensures solid { OnOk result (IsFlat (dimension_of points.now) points.now → ⊥) }
+    requires { ArePoints points.now }
+    ensures { OnOk result (AreSolidPoints points.now) }
 {
     let facets = facets_of(alloc, points)?;
     let vertices = vertices_of(alloc, points, &facets)?;
@@ -224,12 +211,12 @@ fn is_filled(
     facets: &[Functional],
     lattice: usize,
 ) -> Result<bool, Fault> {
-    if !have_one_dimension(vertices) {
+    if !are_points(vertices) {
         return Ok(false);
     }
     let found = scan_of(alloc, vertices)?;
     let counted = count_of(alloc, vertices, 1, 16_384)?;
-    if !have_one_dimension(&found) {
+    if !are_points(&found) {
         return Ok(false);
     }
     let (around, corners) = hull_of(alloc, &found)?;
@@ -244,7 +231,7 @@ fn is_filled(
 
 /// Whether the points have so many facets, vertices and lattice points, and all calls agree on them.
 fn agree(alloc: Global, points: &[Point], counts: (usize, usize, usize)) -> Result<bool, Fault> {
-    if !have_one_dimension(points) {
+    if !are_points(points) {
         return Ok(false);
     }
     let (facets, vertices) = hull_of(alloc, points)?;
@@ -297,7 +284,7 @@ fn agree_on_cubes(rt: HostRuntime) -> Result<(), Fail> {
 
 /// Whether all calls refuse the points with this flat function.
 fn is_refused(alloc: Global, points: &[Point], function: &Functional) -> Result<bool, Fault> {
-    if !have_one_dimension(points) || points.len() != points[0].dim() + 1 {
+    if !are_points(points) || points.len() != points[0].dim() + 1 {
         return Ok(false);
     }
     let refusal = Fault::Refused(Refusal::Flat(function.copied()));
