@@ -13,7 +13,7 @@ use Rattle.palp_words.specs.declared.job.Job.{Job}
 use Rattle.palp_input.specs.Grammar.{most_bytes, Listed, listed, TextEnd, End, FaultEnd, TooLongEnd, read_text}
 use Rattle.palp_engine.specs.Commands.{IsBuilt, AreBuilt, AreUnbuilt, Says}
 use Rattle.palp_engine.specs.Texts.{outcome_with, HaveReport, of_items, of_unbuilt, of_bad_words, no_front, front_of_items}
-use Rattle.palp_engine.specs.Runs.{HasTaken, IsText, AreUntouched, IsReported, IsReportedInPart, IsDone, IsRefusal, IsCut, HasEnding, TellsBadWords, TellsNotBuilt, IsComplete}
+use Rattle.palp_engine.specs.Runs.{HasTaken, IsText, AreUntouched, IsReported, IsReportedInPart, IsDone, IsRefusal, HasReadFault, HasWriteFault, HasEnding, TellsBadWords, TellsNotBuilt, IsComplete}
 use Rattle.palp_engine.specs.RunSteps.{GivesEnd, ReportMeans, PerformedMeans, IsPerformed, AnswerMeans, IsAnswered}
 use Rattle.palp_engine.specs.ReadingSteps.{Reads, text_end}
 use Rattle.palp_engine.specs.declared.reading.Reading.{Reading}
@@ -113,7 +113,14 @@ pub read_fault_performed : (job : Job) (source source_now : SourceState) (out : 
     → IsPerformed job source source_now out out ReadFault
 read_fault_performed job source source_now out r = record {
   taken = (r.is_text.bytes, r.is_text.have_passed);
-  means = λ words built same. record { rose = r.means; in_part = nothing_in_part words source source_now out r.text r.is_text };
+  means = λ words built same. record {
+    rose = r.means;
+    bytes = r.is_text.bytes;
+    have_passed = r.is_text.have_passed;
+    front = [];
+    is_front = no_front;
+    gives = gives_nothing out;
+  };
 }
 
 -- the job's outcome is the run's
@@ -204,10 +211,10 @@ module _ (words : List (List ℕ)) (source source_now : SourceState) (out out_no
     pub is_done : outcome ≡ Done → IsDone words source source_now out out_now
     is_done e = (at Done e).1
 
-    pub is_read_fault : outcome ≡ ReadFault → IsCut words source.faults source_now.faults source source_now out out_now
+    pub is_read_fault : outcome ≡ ReadFault → HasReadFault words source source_now out out_now
     is_read_fault e = (at ReadFault e).1
 
-    pub is_write_fault : outcome ≡ WriteFault → IsCut words out.faults out_now.faults source source_now out out_now
+    pub is_write_fault : outcome ≡ WriteFault → HasWriteFault words source source_now out out_now
     is_write_fault e = (at WriteFault e).1
 
     pub is_no_memory : outcome ≡ NoMemory → IsReportedInPart words source source_now out out_now
@@ -269,7 +276,7 @@ module _ (words : List (List ℕ)) (source source_now : SourceState) (out out_no
   later_of TextLimit m = m.1.gives.later
   later_of (BadWords fault) m = stays m.1
   later_of NotBuilt m = stays m.1
-  later_of ReadFault m = m.1.in_part.gives.later
+  later_of ReadFault m = m.1.gives.later
   later_of WriteFault m = m.1.in_part.gives.later
   later_of NoMemory m = m.1.gives.later
 

@@ -11,7 +11,7 @@ use Rattle.palp_words.specs.declared.job.Job.{Job}
 use Rattle.palp_input.specs.Grammar.{Listed, TextEnd}
 use Rattle.palp_engine.specs.Commands.{AreBuilt, AreUnbuilt, Says}
 use Rattle.palp_engine.specs.Texts.{outcome_with}
-use Rattle.palp_engine.specs.Runs.{HasTaken, AreUntouched, IsReported, IsReportedInPart, IsDone, IsCut}
+use Rattle.palp_engine.specs.Runs.{HasTaken, AreUntouched, IsReported, IsReportedInPart, IsDone, HasReadFault, HasWriteFault}
 use Rattle.palp_engine.specs.declared.outcome.Outcome.{Outcome}
 use Rattle.palp_engine.specs.declared.outcome.Outcome.TheVariants.{Done, BadWords, BadText, Refused, TextLimit, NotBuilt, ReadFault, WriteFault, NoMemory}
 use Rattle.palp_engine.specs.declared.session.ItemFault.{ItemFault}
@@ -45,8 +45,8 @@ PerformedMeans words source source_now out out_now Done = IsDone words source so
 PerformedMeans words source source_now out out_now (BadText fault) = IsReported words source source_now out out_now (BadText fault)
 PerformedMeans words source source_now out out_now (Refused item cause) = IsReported words source source_now out out_now (Refused item cause)
 PerformedMeans words source source_now out out_now TextLimit = IsReported words source source_now out out_now TextLimit
-PerformedMeans words source source_now out out_now ReadFault = IsCut words source.faults source_now.faults source source_now out out_now
-PerformedMeans words source source_now out out_now WriteFault = IsCut words out.faults out_now.faults source source_now out out_now
+PerformedMeans words source source_now out out_now ReadFault = HasReadFault words source source_now out out_now
+PerformedMeans words source source_now out out_now WriteFault = HasWriteFault words source source_now out out_now
 PerformedMeans words source source_now out out_now NoMemory = IsReportedInPart words source source_now out out_now
 PerformedMeans words source source_now out out_now other = ⊥
 

@@ -80,9 +80,18 @@ IsRefusal ReadFault = ⊥
 IsRefusal WriteFault = ⊥
 IsRefusal NoMemory = ⊥
 
--- the report was cut: this count of faults rose, and a front of the report was appended
-pub record IsCut (words : List (List ℕ)) (faults faults_now : ℕ) (source source_now : SourceState) (out out_now : SinkState) : Type 0 where
-  pub rose : Rose faults faults_now
+-- the source failed: its count of faults rose, and a front of the report of the bytes that passed was appended
+pub record HasReadFault (words : List (List ℕ)) (source source_now : SourceState) (out out_now : SinkState) : Type 0 where
+  pub rose : Rose source.faults source_now.faults
+  pub bytes : List ℕ
+  pub have_passed : HavePassed source source_now bytes
+  pub front : List (List ℕ)
+  pub is_front : IsFront words bytes front
+  pub gives : GivesPieces out out_now front
+
+-- the sink of the report failed: its count of faults rose, and a front of the report was appended
+pub record HasWriteFault (words : List (List ℕ)) (source source_now : SourceState) (out out_now : SinkState) : Type 0 where
+  pub rose : Rose out.faults out_now.faults
   pub in_part : IsReportedInPart words source source_now out out_now
 
 -- the outcome is that of the words and the text

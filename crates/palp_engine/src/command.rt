@@ -10,7 +10,7 @@ ghost use Rattle.palp_engine.specs.Notes.{note_line, IsNoted};
 ghost use Rattle.palp_engine.specs.Texts.{outcome_of};
 ghost use Rattle.palp_engine.specs.ReadingSteps.{text_end};
 ghost use Rattle.palp_engine.specs.RunSteps.{IsAnswered, IsPerformed, IsStopped, ReportMeans};
-ghost use Rattle.palp_engine.specs.Runs.{HasTaken, TellsBadWords, TellsNotBuilt, IsDone, IsRefusal, IsReported, IsCut, IsReportedInPart, IsComplete};
+ghost use Rattle.palp_engine.specs.Runs.{HasTaken, TellsBadWords, TellsNotBuilt, IsDone, IsRefusal, IsReported, HasReadFault, HasWriteFault, IsReportedInPart, IsComplete};
 ghost use Rattle.palp_engine.specs.declared.outcome.Outcome.TheVariants.{Done, ReadFault, WriteFault, NoMemory};
 
 use crate::Outcome;
@@ -145,12 +145,12 @@ pub fn run<S: Source, O: Sink, N: Sink>(
     ensures refusals { IsRefusal result
         → IsReported (map string_bytes words.now) (S.state src.old) (S.state src.new) (O.state out.old) (O.state out.new) result }
 
-    // With `ReadFault` the count of faults of the source rose, with `WriteFault` that of `out`; with both, and with `NoMemory`, a front of the
-    // report was appended.
-    ensures read_fault { result ≡ ReadFault → IsCut (map string_bytes words.now) (S.state src.old).faults (S.state src.new).faults
-        (S.state src.old) (S.state src.new) (O.state out.old) (O.state out.new) }
-    ensures write_fault { result ≡ WriteFault → IsCut (map string_bytes words.now) (O.state out.old).faults (O.state out.new).faults
-        (S.state src.old) (S.state src.new) (O.state out.old) (O.state out.new) }
+    // With `ReadFault` the count of faults of the source rose, and a front of the report of the bytes that passed was appended. With
+    // `WriteFault` that of `out` rose; with it and with `NoMemory` a front of the report was appended.
+    ensures read_fault { result ≡ ReadFault
+        → HasReadFault (map string_bytes words.now) (S.state src.old) (S.state src.new) (O.state out.old) (O.state out.new) }
+    ensures write_fault { result ≡ WriteFault
+        → HasWriteFault (map string_bytes words.now) (S.state src.old) (S.state src.new) (O.state out.old) (O.state out.new) }
     ensures no_memory { result ≡ NoMemory
         → IsReportedInPart (map string_bytes words.now) (S.state src.old) (S.state src.new) (O.state out.old) (O.state out.new) }
 
