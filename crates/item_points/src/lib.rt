@@ -4,6 +4,7 @@
 //! Its central theorem: an item has exactly one list of points or exactly one refusal, and where memory isn't wanting that one is answered.
 #![tactic(auto)]
 
+mod examples;
 mod items;
 mod laws;
 mod matrices;
@@ -12,5 +13,6 @@ mod sizes;
 mod tests;
 mod weights;
 
+pub use examples::{matrix_points_are_an_example, numbers_refusal_is_an_example};
 pub use items::{points_of_item, points_of_matrix, points_of_systems};
 pub use laws::item_points_are_single;
