@@ -5,6 +5,7 @@ use Rattle.std.specs.List.{flat_map}
 use Rattle.lattice_core.specs.Dimensions.{dimension_of}
 use Rattle.lattice_core.specs.Weights.{Weighted}
 use Rattle.lattice_core.specs.declared.faults.Refusal.{Refusal}
+use Rattle.palp_input.specs.Systems.{numbers_in}
 use Rattle.palp_input.specs.Grammar.{Listed, ListedWeights, ListedPoints}
 use Rattle.item_points.specs.Points.{HasPoints, IsPointsRefusal}
 use Rattle.palp_engine.specs.Reports.{IsBodyLine, IsRefused}
@@ -19,17 +20,13 @@ pub record IsHullRefusal (item : Listed) (cause : Refusal) : Type 0 where
 abbrev pub IsItemRefused : Listed → Refusal → Type 0
 IsItemRefused item cause = IsPointsRefusal item cause ⊎ IsHullRefusal item cause
 
--- the numbers of a weight line, in order: each degree with its weights behind it
-abbrev pub line_numbers : List Weighted → List ℕ
-line_numbers systems = flat_map (λ (s : Weighted). s.degree ∷ s.weights) systems
-
 -- numbers, each with a space behind it
 abbrev pub numbers_text : List ℕ → List ℕ
 numbers_text numbers = flat_map (λ (k : ℕ). decimal k ++ codes " ") numbers
 
 -- what stands in front of the body line: the numbers of a weight line
 abbrev pub echo : Listed → List ℕ
-echo (ListedWeights systems) = numbers_text (line_numbers systems)
+echo (ListedWeights systems) = numbers_text (numbers_in systems)
 echo (ListedPoints lines columns entries) = []
 
 -- the item isn't refused, and this is its piece of the report

@@ -5,8 +5,9 @@ ghost use Rattle.lattice_core.specs.Stops.{Stops};
 ghost use Rattle.lattice_core.specs.Weights.{weighted_all};
 ghost use Rattle.palp_input.specs.Grammar.{listed};
 ghost use Rattle.palp_input.specs.Items.{IsItem};
+ghost use Rattle.palp_input.specs.Systems.{numbers_in};
 ghost use Rattle.palp_engine.specs.Commands.{IsBuilt};
-ghost use Rattle.palp_engine.specs.Items.{IsPiece, IsItemRefused, echo, line_numbers, numbers_text};
+ghost use Rattle.palp_engine.specs.Items.{IsPiece, IsItemRefused, echo, numbers_text};
 ghost use Rattle.palp_engine.specs.Sessions.{ItemMeans};
 
 use crate::polytopes::body_of;
@@ -80,7 +81,7 @@ fn put_numbers(page: &mut Vec<u8>, numbers: &[u64]) -> Result<(), NoMemory>
 
 /// Appends the numbers of a weight line.
 fn put_systems(page: &mut Vec<u8>, systems: &[WeightSystem]) -> Result<(), NoMemory>
-    ensures { OnOk result (page.new.items ≡ page.old.items ++ numbers_text (line_numbers (weighted_all systems.now))) }
+    ensures { OnOk result (page.new.items ≡ page.old.items ++ numbers_text (numbers_in (weighted_all systems.now))) }
 {
     for system in systems {
         put_numbers(page, &[system.degree])?;

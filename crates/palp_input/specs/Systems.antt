@@ -1,7 +1,7 @@
 -- The weight systems of a line of numbers. Weight lines follow PALP's manual, arXiv:1205.4147, section 3;
 -- where a system ends, and the faults, are this project's own.
 use Rattle.std.specs.Prelude.{◌++◌, ℕ, ◌+◌, ◌-◌, Bool, List, [], ◌∷◌, map, length, zero, suc, Option, Some, None, if◌then◌else◌, ◌==◌, nat_le}
-use Rattle.std.specs.List.{list_all}
+use Rattle.std.specs.List.{flat_map, list_all}
 use Rattle.lattice_core.specs.Weights.{Weighted}
 use Rattle.palp_input.specs.declared.lines.LineNumber.{LineNumber}
 
@@ -77,5 +77,4 @@ numbers_of [] = []
 numbers_of (system ∷ systems) = system.degree ∷ (system.weights ++ numbers_of systems)
 
 abbrev pub numbers_in : List Weighted → List ℕ
-numbers_in [] = []
-numbers_in (system ∷ systems) = system.degree ∷ (system.weights ++ numbers_in systems)
+numbers_in systems = flat_map (λ (s : Weighted). s.degree ∷ s.weights) systems
