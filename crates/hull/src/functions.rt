@@ -8,7 +8,7 @@ ghost use Rattle.lattice_theory.specs.Size.{absolute_sum};
 ghost use Rattle.hull.specs.Hyperplanes.{StartsPositive};
 
 use arrayvec::ArrayVec;
-use lattice_core::{Functional, Point, narrowed, pair};
+use lattice_core::{Functional, Point, narrowed};
 
 /// The function with this normal that vanishes at the point.
 pub(crate) fn function_at(normal: &[i128], p: &Point) -> Functional
@@ -20,12 +20,7 @@ pub(crate) fn function_at(normal: &[i128], p: &Point) -> Functional
     ensures bound { nat_abs result.constant ≤ 2 ^ 96 }
 {
     let coordinates = p.entries();
-    let entries = narrowed(normal);
-    let constant = -pair(entries.as_slice(), coordinates);
-    match Functional::new(entries.as_slice(), constant) {
-        Some(function) => function,
-        None => unreachable!(),
-    }
+    Functional::through(narrowed(normal).as_slice(), coordinates)
 }
 
 /// The function with the opposite values.

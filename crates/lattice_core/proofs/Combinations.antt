@@ -212,9 +212,9 @@ fixed_small (suc k) h some most f =
     behind k = omega arith
 
 -- a function with the combination's normal that vanishes at the point is the combination
-pub answer_is : (f g h r : Affine) (p v : List ℤ) → IsCombinationAt f g p h → v ≡ h.normal → r.normal ≡ v → r.constant ≡ neg_ℤ (dot p v) → IsCombinationAt f g p r
+pub answer_is : (f g h r : Affine) (p v : List ℤ) → IsCombinationAt f g p h → v ≡ h.normal → r.normal ≡ v → r.constant ≡ neg_ℤ (dot v p) → IsCombinationAt f g p r
 answer_is f g h r p v c e n k =
-    let constants = k ∙ ap neg_ℤ (ap (dot p) e ∙ dot_comm p h.normal) ∙ from_zero (dot h.normal p) h.constant c.vanishes in
+    let constants = k ∙ ap neg_ℤ (ap (λ x. dot x p) e) ∙ from_zero (dot h.normal p) h.constant c.vanishes in
     subst (IsCombinationAt f g p) (sym (ap₂ (λ (x : List ℤ) (z : ℤ). record { normal = x; constant = z }) (n ∙ e) constants)) c
   where
     from_zero : (d c : ℤ) → d +ℤ c ≡ pos 0 → neg_ℤ d ≡ c

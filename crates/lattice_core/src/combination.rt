@@ -23,7 +23,7 @@ pub fn combine(f: &Functional, g: &Functional, p: &Point) -> Functional
     requires fixed { HasFixedCombination f.now g.now p.now }
     ensures { IsCombinationAt f.now g.now p.now result }
 {
-    through(&combined_normal(f, g, p), p)
+    Functional::through(&combined_normal(f, g, p), p.entries())
 }
 
 /// The combination's normal.
@@ -91,20 +91,6 @@ fn sum_of_products(left: i128, a: i128, right: i128, b: i128) -> i128
     ensures bound { nat_abs result < 2 ^ 127 }
 {
     left * a + right * b
-}
-
-/// The function with this normal that vanishes at the point.
-fn through(normal: &[i64], p: &Point) -> Functional
-    requires dimension { length normal.now ≡ length p.now }
-    requires small { absolute_sum normal.now ≤ 2 ^ 60 }
-    ensures normal { result.normal ≡ normal.now }
-    ensures constant { result.constant ≡ neg_ℤ (dot p.now normal.now) }
-{
-    let constant = -pair(p.entries(), normal);
-    match Functional::new(normal, constant) {
-        Some(function) => function,
-        None => unreachable!(),
-    }
 }
 
 #[cfg(test)]

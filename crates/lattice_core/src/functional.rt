@@ -1,5 +1,6 @@
 //! Affine functions with integer coefficients.
-ghost use Rattle.std.specs.Prelude.{◌≡◌, ◌^◌, ◌≤◌, ◌↔◌, length, nat_abs, IsSome, IfSome, IsTrue, ⊤};
+ghost use Rattle.std.specs.Prelude.{◌≡◌, ◌⊎◌, ◌*◌, ◌^◌, ◌≤◌, ◌↔◌, length, neg_ℤ, nat_abs, IsSome, IfSome, IsTrue, ⊤};
+ghost use Rattle.lattice_theory.specs.Vector.{dot};
 ghost use Rattle.lattice_theory.specs.Affine.{Affine, value};
 ghost use Rattle.lattice_theory.specs.Order.{FunctionLess};
 ghost use Rattle.lattice_theory.specs.Size.{absolute_sum};
@@ -58,6 +59,24 @@ impl Functional {
             normal: held(normal),
             constant,
         })
+    }
+
+    /// The function with this normal, of 1 to 6 entries, that vanishes at the point with these coordinates, as many. The absolute values of the
+    /// normal's entries, or those of the coordinates, sum to at most 2^60. The constant is at most 2^63 times the coordinates' sum.
+    pub fn through(normal: &[i64], coordinates: &[i64]) -> Functional
+        requires least { 1 ≤ length coordinates.now }
+        requires most { length coordinates.now ≤ MOST_COORDINATES }
+        requires dimension { length normal.now ≡ length coordinates.now }
+        requires small { (absolute_sum normal.now ≤ 2 ^ 60) ⊎ (absolute_sum coordinates.now ≤ 2 ^ 60) }
+        ensures normal { result.normal ≡ normal.now }
+        ensures constant { result.constant ≡ neg_ℤ (dot normal.now coordinates.now) }
+        ensures bound { nat_abs result.constant ≤ 2 ^ 63 * absolute_sum coordinates.now }
+    {
+        let pairing = pair(normal, coordinates);
+        match Functional::new(normal, -pairing) {
+            Some(function) => function,
+            None => unreachable!(),
+        }
     }
 
     /// The normal's entries, in order.

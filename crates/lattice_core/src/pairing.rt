@@ -1,18 +1,19 @@
 //! The pairing of two vectors.
-ghost use Rattle.std.specs.Prelude.{◌≡◌, ◌^◌, ◌≤◌, ◌*◌, ◌*ℤ◌, length, nat_abs};
+ghost use Rattle.std.specs.Prelude.{◌≡◌, ◌⊎◌, ◌^◌, ◌≤◌, ◌*◌, ◌*ℤ◌, length, nat_abs};
 ghost use Rattle.lattice_theory.specs.Vector.{dot};
 ghost use Rattle.lattice_theory.specs.Size.{absolute_sum};
 ghost use Rattle.lattice_core.specs.declared.limits.TheConstants.{MOST_COORDINATES};
 
-/// The sum of the products of the entries of two vectors of equal length, at most 6. The absolute values of the second vector's entries sum to
-/// at most 2^60; the answer is at most 2^63 times that sum in absolute value.
+/// The sum of the products of the entries of two vectors of equal length, at most 6. The absolute values of the entries of the one or of the
+/// other sum to at most 2^60. The answer is at most 2^63 times either sum in absolute value.
 #[inline]
 pub fn pair(a: &[i64], b: &[i64]) -> i128
     requires same_length { length a.now ≡ length b.now }
     requires most { length b.now ≤ MOST_COORDINATES }
-    requires small { absolute_sum b.now ≤ 2 ^ 60 }
+    requires small { (absolute_sum a.now ≤ 2 ^ 60) ⊎ (absolute_sum b.now ≤ 2 ^ 60) }
     ensures value { result ≡ dot a.now b.now }
-    ensures bound { nat_abs result ≤ 2 ^ 63 * absolute_sum b.now }
+    ensures left { nat_abs result ≤ 2 ^ 63 * absolute_sum a.now }
+    ensures right { nat_abs result ≤ 2 ^ 63 * absolute_sum b.now }
 {
     let mut sum = 0_i128;
     for i in 0..a.len() {

@@ -1,4 +1,4 @@
-use Rattle.std.proofs.Common.{◌≡◌, ◌^◌, ◌<◌, ◌≤◌, ◌+ℤ◌, ℤ, pos, neg_ℤ, length, rules, arith, sym, ap, ◌∙◌, subst, SFits}
+use Rattle.std.proofs.Common.{◌≡◌, ◌^◌, ◌<◌, ◌≤◌, ◌+ℤ◌, ℤ, pos, neg_ℤ, length, rules, arith, inr, sym, ap, ◌∙◌, subst, SFits}
 use Rattle.std.specs.Prelude.{nat_abs}
 use Rattle.std.specs.Int.{w128}
 use Rattle.std.proofs.lemmas.Int.{ints, to_z-of_z, fits_signed_from_abs}
@@ -11,7 +11,7 @@ use Rattle.lattice_core.proofs.Widths.{small_fits}
 pub pair-pairing-requires-clause-small : goal.pair-pairing-requires-clause-small
 pair-pairing-requires-clause-small c =
     let most = subst (λ xs. length xs ≤ 6) c.entries.ensures.value c.entries.ensures.most in
-    rw c.normal.ensures.value (normal_absolute_sum (length c.args.p.now) c.args.f.now.normal most c.requires.dimension c.requires.entries)
+    inr (rw c.normal.ensures.value (normal_absolute_sum (length c.args.p.now) c.args.f.now.normal most c.requires.dimension c.requires.entries))
 
 -- the sum of the two parts is the value
 total_is : (c : After-constant) → c.pair-pairing.result +ℤ c.constant.result ≡ value c.args.f.now c.args.p.now
