@@ -14,3 +14,4 @@ pub mod PrimitiveLaws
 pub mod Functions
 pub mod FlatUnique
 pub mod ExampleSteps
+pub mod SegmentFacets

@@ -6,3 +6,4 @@ pub mod DilatePoints
 pub mod Gains
 pub mod ScanWalks
 pub mod RulingOut
+pub mod SegmentSteps

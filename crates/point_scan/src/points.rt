@@ -86,3 +86,6 @@ pub fn count_to(
         }
     }
 }
+
+#[cfg(test)]
+mod tests;

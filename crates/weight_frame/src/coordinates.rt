@@ -13,10 +13,10 @@ ghost use Rattle.weight_frame.specs.steps.Places.{IsFirstPlace, IsNextCoordinate
 ghost use Rattle.weight_frame.specs.Answers.{IsHandedOut, IsAnswer};
 
 use crate::multiples::product;
-use crate::values::{narrowed, weighted_value};
+use crate::values::weighted_value;
 use crate::vector::FrameVector;
 use arrayvec::ArrayVec;
-use lattice_core::{MOST_COORDINATE, Point, WeightSystem};
+use lattice_core::{MOST_COORDINATE, Point, WeightSystem, narrowed_entry};
 
 /// What is known of a vector's coordinates in a frame.
 #[derive(Debug, Drop, PartialEq, Eq)]
@@ -113,7 +113,7 @@ fn coordinates_of(x: &[i64], vectors: &[FrameVector]) -> Option<ArrayVec<i64, 6>
         if next.unsigned_abs() > MOST_COORDINATE {
             return None;
         }
-        found.push(narrowed(next));
+        found.push(narrowed_entry(next));
     }
     Some(found)
 }

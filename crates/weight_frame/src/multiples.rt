@@ -5,10 +5,9 @@ ghost use Rattle.lattice_core.specs.declared.limits.TheConstants.{MOST_FRAME_ENT
 ghost use Rattle.weight_frame.specs.Frame.{IsSumOfMultiples, largest};
 ghost use Rattle.weight_frame.specs.steps.Sums.{IsSmallSum, IsLargeSum};
 
-use crate::values::narrowed;
 use crate::vector::FrameVector;
 use arrayvec::ArrayVec;
-use lattice_core::MOST_FRAME_ENTRY;
+use lattice_core::{MOST_FRAME_ENTRY, narrowed_entry};
 
 /// The product of a multiplier and an entry.
 pub(crate) fn product(p: i128, a: i64) -> i128
@@ -68,7 +67,7 @@ fn narrowed_entries(x: &[i128]) -> FrameVector
 {
     let mut entries = ArrayVec::new();
     for entry in x {
-        entries.push(narrowed(*entry));
+        entries.push(narrowed_entry(*entry));
     }
     FrameVector::new(entries)
 }

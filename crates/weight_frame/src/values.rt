@@ -30,11 +30,3 @@ fn weighted(weight: u64, entry: i64) -> i64
 {
     weight as i64 * entry
 }
-
-/// The same number in 64 bits.
-pub(crate) fn narrowed(a: i128) -> i64
-    requires { nat_abs a < 2 ^ 63 }
-    ensures { result ≡ a }
-{
-    a as i64
-}
