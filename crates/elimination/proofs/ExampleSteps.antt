@@ -47,7 +47,14 @@ last = member 2 (pos 1) (negsuc 1) (pos 1)
 
 -- (-2, 1, 0) = 1 e1 - 2 e0 and (-3, 0, 1) = 1 e2 - 3 e0
 first_of_two : IsReduced e0 v1 e1 k1
-first_of_two = record { own = refl; dimension = refl; positive = omega (arith, linear); factor = pos 1; nonzero = λ (e : pos 1 ≡ pos 0). absurd (omega (arith, linear)); entries = entries }
+first_of_two = record {
+  own = refl;
+  dimension = refl;
+  positive = omega (arith, linear);
+  factor = pos 1;
+  nonzero = λ (e : pos 1 ≡ pos 0). absurd (omega (arith, linear));
+  entries = entries;
+}
   where
     entries : (j : ℕ) → pos 1 *ℤ entry k1.vector j ≡ dot e0.vector v1 *ℤ entry e1.vector j -ℤ dot e1.vector v1 *ℤ entry e0.vector j
     entries zero = refl
@@ -57,7 +64,14 @@ first_of_two = record { own = refl; dimension = refl; positive = omega (arith, l
 
 -- the other of the two
 second_of_two : IsReduced e0 v1 e2 k2
-second_of_two = record { own = refl; dimension = refl; positive = omega (arith, linear); factor = pos 1; nonzero = λ (e : pos 1 ≡ pos 0). absurd (omega (arith, linear)); entries = entries }
+second_of_two = record {
+  own = refl;
+  dimension = refl;
+  positive = omega (arith, linear);
+  factor = pos 1;
+  nonzero = λ (e : pos 1 ≡ pos 0). absurd (omega (arith, linear));
+  entries = entries;
+}
   where
     entries : (j : ℕ) → pos 1 *ℤ entry k2.vector j ≡ dot e0.vector v1 *ℤ entry e2.vector j -ℤ dot e2.vector v1 *ℤ entry e0.vector j
     entries zero = refl
@@ -67,7 +81,14 @@ second_of_two = record { own = refl; dimension = refl; positive = omega (arith, 
 
 -- -3 (1, -2, 1) = -3 (-3, 0, 1) - -6 (-2, 1, 0)
 pub the_last : IsReduced k1 v2 k2 last
-the_last = record { own = refl; dimension = refl; positive = omega (arith, linear); factor = negsuc 2; nonzero = λ (e : negsuc 2 ≡ pos 0). absurd (omega (arith, linear)); entries = entries }
+the_last = record {
+  own = refl;
+  dimension = refl;
+  positive = omega (arith, linear);
+  factor = negsuc 2;
+  nonzero = λ (e : negsuc 2 ≡ pos 0). absurd (omega (arith, linear));
+  entries = entries;
+}
   where
     entries : (j : ℕ) → negsuc 2 *ℤ entry last.vector j ≡ dot k1.vector v2 *ℤ entry k2.vector j -ℤ dot k2.vector v2 *ℤ entry k1.vector j
     entries zero = refl
@@ -79,7 +100,8 @@ the_last = record { own = refl; dimension = refl; positive = omega (arith, linea
 after_first : IsKernel 3 (v1 ∷ []) (k1 ∷ (k2 ∷ [])) × ArePivots 3 (v1 ∷ []) (v1 ∷ []) (k1 ∷ (k2 ∷ []))
 after_first = kernel_steps_lem 3 [] [] [] e0 (e1 ∷ (e2 ∷ [])) (k1 ∷ (k2 ∷ [])) v1 (kernel_out (units_kernel 3)) (units_pivots 3)
     (All-nil (λ k. dot k.vector v1 ≡ pos 0)) (λ (e : pos 1 ≡ pos 0). absurd (omega (arith, linear)))
-    (All-cons (λ k. 0 ≤ k.own) e1 (e2 ∷ []) (omega arith) (All-cons (λ k. 0 ≤ k.own) e2 [] (omega arith) (All-nil (λ k. 0 ≤ k.own)))) (first_of_two, (second_of_two, tt))
+    (All-cons (λ k. 0 ≤ k.own) e1 (e2 ∷ []) (omega arith) (All-cons (λ k. 0 ≤ k.own) e2 [] (omega arith) (All-nil (λ k. 0 ≤ k.own))))
+    (first_of_two, (second_of_two, tt))
 
 -- the second step: both vectors are pivots, and one member is left
 pub after_both : IsKernel 3 (v1 ∷ (v2 ∷ [])) (last ∷ []) × ArePivots 3 (v1 ∷ (v2 ∷ [])) (v1 ∷ (v2 ∷ [])) (last ∷ [])

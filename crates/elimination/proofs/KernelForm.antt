@@ -43,21 +43,31 @@ apart_tail (one_more p ps) = ps
 -- from the definitions
 apart_in : (ks : List Member) → AreApart ks → Apart ks
 apart_in [] h = none
-apart_in (k ∷ ks) h = one_more (each_weaker (λ l e. record { first = e.0; second = e.1 }) (each_from_all (λ l. (entry k.vector l.own ≡ pos 0) × (entry l.vector k.own ≡ pos 0)) ks h.0)) (apart_in ks h.1)
+apart_in (k ∷ ks) h = one_more
+    (each_weaker (λ l e. record { first = e.0; second = e.1 })
+    (each_from_all (λ l. (entry k.vector l.own ≡ pos 0) × (entry l.vector k.own ≡ pos 0)) ks h.0)) (apart_in ks h.1)
 
 -- the facts about each member, gathered
 members_in : (m : ℕ) (vectors : List (List ℤ)) (ks : List Member)
-    → Each (λ k. length k.vector ≡ m) ks → Each (λ k. Annihilates vectors k.vector) ks → Each (λ k. pos 0 <ℤ entry k.vector k.own) ks → Each (λ k. EndsAt k.vector k.own) ks
+    → Each (λ k. length k.vector ≡ m) ks → Each (λ k. Annihilates vectors k.vector) ks → Each (λ k. pos 0 <ℤ entry k.vector k.own) ks
+    → Each (λ k. EndsAt k.vector k.own) ks
     → Each (IsMember m vectors) ks
 members_in m vectors [] a b c d = empty
 members_in m vectors (k ∷ ks) a b c d = more
-    (record { dimension = each_head a; kills = each_from_all (λ v. dot k.vector v ≡ pos 0) vectors (each_head b); positive = each_head c; zeros = (each_head d).zeros })
+    (record {
+      dimension = each_head a;
+      kills = each_from_all (λ v. dot k.vector v ≡ pos 0) vectors (each_head b);
+      positive = each_head c;
+      zeros = (each_head d).zeros;
+    })
     (members_in m vectors ks (each_tail a) (each_tail b) (each_tail c) (each_tail d))
 
 -- a kernel of the definitions in inductive form
 pub kernel_in : (m : ℕ) (vectors : List (List ℤ)) (ks : List Member) → IsKernel m vectors ks → Kernel m vectors ks
 kernel_in m vectors ks h = record {
-  members = members_in m vectors ks (each_from_all (λ k. length k.vector ≡ m) ks h.lengths) (each_from_all (λ k. Annihilates vectors k.vector) ks h.annihilate) (each_from_all (λ k. pos 0 <ℤ entry k.vector k.own) ks h.own_positive) (each_from_all (λ k. EndsAt k.vector k.own) ks h.ends);
+  members = members_in m vectors ks (each_from_all (λ k. length k.vector ≡ m) ks h.lengths)
+      (each_from_all (λ k. Annihilates vectors k.vector) ks h.annihilate)
+      (each_from_all (λ k. pos 0 <ℤ entry k.vector k.own) ks h.own_positive) (each_from_all (λ k. EndsAt k.vector k.own) ks h.ends);
   apart = apart_in ks h.apart;
   spans = λ g e z. h.spans g e (all_from_each z);
 }
@@ -65,7 +75,10 @@ kernel_in m vectors ks h = record {
 -- to the definitions
 apart_out : {ks : List Member} → Apart ks → AreApart ks
 apart_out none = tt
-apart_out (one_more {k = k} p ps) = (all_from_each (each_weaker {Q = λ l. (entry k.vector l.own ≡ pos 0) × (entry l.vector k.own ≡ pos 0)} (λ l e. (e.first, e.second)) p), apart_out ps)
+apart_out (one_more {k = k} p ps) = (
+  all_from_each (each_weaker {Q = λ l. (entry k.vector l.own ≡ pos 0) × (entry l.vector k.own ≡ pos 0)} (λ l e. (e.first, e.second)) p),
+  apart_out ps,
+)
 
 -- and back
 pub kernel_out : {m : ℕ} {vectors : List (List ℤ)} {ks : List Member} → Kernel m vectors ks → IsKernel m vectors ks
@@ -74,7 +87,8 @@ kernel_out {m = m} {vectors = vectors} {ks = ks} h = record {
   annihilate = all_from_each (each_weaker {Q = λ k. Annihilates vectors k.vector} (λ k p. all_from_each p.kills) h.members);
   own_positive = all_from_each (each_weaker {Q = λ k. pos 0 <ℤ entry k.vector k.own} (λ k p. p.positive) h.members);
   apart = apart_out h.apart;
-  ends = all_from_each (each_weaker {Q = λ k. EndsAt k.vector k.own} (λ k p. record { nonzero = positive_nonzero (entry k.vector k.own) p.positive; zeros = p.zeros }) h.members);
+  ends = all_from_each (each_weaker {Q = λ k. EndsAt k.vector k.own}
+      (λ k p. record { nonzero = positive_nonzero (entry k.vector k.own) p.positive; zeros = p.zeros }) h.members);
   spans = λ g e z. h.spans g e (each_from_all (λ v. dot g v ≡ pos 0) vectors z);
 }
 
@@ -95,12 +109,21 @@ pairings-negatives (c ∷ cs) [] x = refl
 pairings-negatives (c ∷ cs) (k ∷ ks) x = let e = pairings-negatives cs ks x in rw (e, neg-*ℤ) (omega (arith, linear))
 
 -- with a positive multiplier
-positive_combination : (ks : List Member) (g : List ℤ) (q : ℤ) (cs : List ℤ) → pos 0 <ℤ q → length cs ≡ length ks → ((x : List ℤ) → q *ℤ dot g x ≡ pairings cs ks x) → IsCombination ks g
-positive_combination ks g q cs h e f = let n = positive_is q h in record { multiplier = n.0; positive = n.1; coefficients = cs; as_many = e; sums = λ x. ap (λ (z : ℤ). z *ℤ dot g x) (sym n.2) ∙ f x }
+positive_combination : (ks : List Member) (g : List ℤ) (q : ℤ) (cs : List ℤ) → pos 0 <ℤ q → length cs ≡ length ks
+    → ((x : List ℤ) → q *ℤ dot g x ≡ pairings cs ks x) → IsCombination ks g
+positive_combination ks g q cs h e f = let n = positive_is q h in record {
+  multiplier = n.0;
+  positive = n.1;
+  coefficients = cs;
+  as_many = e;
+  sums = λ x. ap (λ (z : ℤ). z *ℤ dot g x) (sym n.2) ∙ f x;
+}
 
 -- with any multiplier other than 0
-pub combination_from : (ks : List Member) (g : List ℤ) (q : ℤ) (cs : List ℤ) → q ≢ pos 0 → length cs ≡ length ks → ((x : List ℤ) → q *ℤ dot g x ≡ pairings cs ks x) → IsCombination ks g
+pub combination_from : (ks : List Member) (g : List ℤ) (q : ℤ) (cs : List ℤ) → q ≢ pos 0 → length cs ≡ length ks
+    → ((x : List ℤ) → q *ℤ dot g x ≡ pairings cs ks x) → IsCombination ks g
 combination_from ks g q cs n e f = ⊎_elim
     (λ (h : pos 0 <ℤ q). positive_combination ks g q cs h e f)
-    (λ (h : pos 0 <ℤ neg_ℤ q). positive_combination ks g (neg_ℤ q) (negatives cs) h (length-negatives cs ∙ e) (λ x. neg-*ℤ q (dot g x) ∙ ap neg_ℤ (f x) ∙ sym (pairings-negatives cs ks x)))
+    (λ (h : pos 0 <ℤ neg_ℤ q). positive_combination ks g (neg_ℤ q) (negatives cs) h (length-negatives cs ∙ e)
+    (λ x. neg-*ℤ q (dot g x) ∙ ap neg_ℤ (f x) ∙ sym (pairings-negatives cs ks x)))
     (positive_or_negative q n)

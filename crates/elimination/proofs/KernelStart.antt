@@ -89,7 +89,8 @@ pairings-units : (m : ℕ) (g x : List ℤ) → length g ≡ m → dot g x ≡ p
 pairings-units m [] x e = refl
 pairings-units zero (a ∷ g) x e = absurd (omega arith)
 pairings-units (suc m) (a ∷ g) [] e = sym (rw (pairings-behind_nil g (units m)) (simp products_out))
-pairings-units (suc m) (a ∷ g) (b ∷ x) e = let z = dot-zeros m x in let p = pairings-behind g (units m) b x in let r = pairings-units m g x (omega arith) in
+pairings-units (suc m) (a ∷ g) (b ∷ x) e = let z = dot-zeros m x in let p = pairings-behind g (units m) b x in
+    let r = pairings-units m g x (omega arith) in
     rw (z, p, r) (simp products_out (omega (arith, linear)))
 
 -- the kernel of no vectors
@@ -97,7 +98,13 @@ pub units_kernel : (m : ℕ) → Kernel m [] (units m)
 units_kernel m = record {
   members = units_members m;
   apart = units_apart m;
-  spans = λ g e z. record { multiplier = 1; positive = omega arith; coefficients = g; as_many = e ∙ sym (length-units m); sums = λ x. simp products_out (pairings-units m g x e) };
+  spans = λ g e z. record {
+    multiplier = 1;
+    positive = omega arith;
+    coefficients = g;
+    as_many = e ∙ sym (length-units m);
+    sums = λ x. simp products_out (pairings-units m g x e);
+  };
 }
 
 -- its pivots
@@ -127,7 +134,8 @@ is_unit_behind {m = m} {i = i} {k = k} h = record {
 units_are : (m i : ℕ) (d : Member) → i < m → IsUnitMember m i (get_or (units m) i d)
 units_are zero i d h = absurd (omega arith)
 units_are (suc m) zero d h = is_unit_front m
-units_are (suc m) (suc i) d h = subst (IsUnitMember (suc m) (suc i)) (sym (at (units m) i (let e = length-units m in omega arith))) (is_unit_behind (units_are m i d (omega arith)))
+units_are (suc m) (suc i) d h = subst (IsUnitMember (suc m) (suc i)) (sym (at (units m) i (let e = length-units m in omega arith)))
+    (is_unit_behind (units_are m i d (omega arith)))
   where
     at : (ks : List Member) (j : ℕ) → j < length ks → get_or (map behind ks) j d ≡ behind (get_or ks j d)
     at [] j l = absurd (omega arith)
@@ -136,13 +144,17 @@ units_are (suc m) (suc i) d h = subst (IsUnitMember (suc m) (suc i)) (sym (at (u
 
 -- two unit members of one place have the same entries
 unit_entries : {m i : ℕ} {k l : Member} → IsUnitMember m i k → IsUnitMember m i l → (j : ℕ) → entry k.vector j ≡ entry l.vector j
-unit_entries {i = i} h h' j = ⊎_elim (λ (e : j ≡ i). rw e (h.unit.one ∙ sym h'.unit.one)) (λ (n : j ≢ i). h.unit.zeros j n ∙ sym (h'.unit.zeros j n)) (cases_eq j i)
+unit_entries {i = i} h h' j = ⊎_elim (λ (e : j ≡ i). rw e (h.unit.one ∙ sym h'.unit.one)) (λ (n : j ≢ i). h.unit.zeros j n
+    ∙ sym (h'.unit.zeros j n)) (cases_eq j i)
 
 -- so they are the same
 unit_same : {m i : ℕ} {k l : Member} → IsUnitMember m i k → IsUnitMember m i l → k ≡ l
-unit_same {k = k} {l = l} h h' = let o = h.own ∙ sym h'.own in let e = same_from_entries k.vector l.vector (h.unit.dimension ∙ sym h'.unit.dimension) (unit_entries h h') in
+unit_same {k = k} {l = l} h h' = let o = h.own ∙ sym h'.own in
+    let e = same_from_entries k.vector l.vector (h.unit.dimension ∙ sym h'.unit.dimension) (unit_entries h h') in
     ap₂ (λ (i : ℕ) (x : List ℤ). record { own = i; vector = x }) o e
 
 -- so such a list is the list of the units
-pub units_from : (m : ℕ) (ks : List Member) → length ks ≡ m → ((i : ℕ) (d : Member) → i < m → IsUnitMember m i (get_or ks i d)) → ks ≡ units m
-units_from m ks e h = let d : Member = record { own = 0; vector = [] } in ext_get_or d ks (units m) (e ∙ sym (length-units m)) (λ i l. unit_same (h i d (omega arith)) (units_are m i d (omega arith)))
+pub units_from : (m : ℕ) (ks : List Member) → length ks ≡ m → ((i : ℕ) (d : Member) → i < m → IsUnitMember m i (get_or ks i d))
+    → ks ≡ units m
+units_from m ks e h = let d : Member = record { own = 0; vector = [] } in
+    ext_get_or d ks (units m) (e ∙ sym (length-units m)) (λ i l. unit_same (h i d (omega arith)) (units_are m i d (omega arith)))

@@ -22,7 +22,8 @@ KernelStarts = (m : ℕ) (ks : List Member) → length ks ≡ m → ((i : ℕ) (
 
 -- a vector that each member annihilates changes neither the kernel nor its pivots
 abbrev pub KernelStays : Type 0
-KernelStays = (m : ℕ) (vectors pivots : List (List ℤ)) (ks : List Member) (v : List ℤ) → IsKernel m vectors ks → ArePivots m vectors pivots ks
+KernelStays = (m : ℕ) (vectors pivots : List (List ℤ)) (ks : List Member) (v : List ℤ) → IsKernel m vectors ks
+    → ArePivots m vectors pivots ks
     → All (λ k. dot k.vector v ≡ pos 0) ks → IsKernel m (vectors ++ (v ∷ [])) ks × ArePivots m (vectors ++ (v ∷ [])) pivots ks
 
 -- where v isn't annihilated by the member p, but by all before p, and all behind p have own places that aren't earlier than p's:
@@ -50,12 +51,14 @@ LargeKernel = (m : ℕ) (vectors : List (List ℤ)) (k l : Member) (ks : List Me
 
 -- a vector that annihilates the vectors and is 0 at the own places of all members but one is a multiple of that member
 abbrev pub KernelMember : Type 0
-KernelMember = (m : ℕ) (vectors : List (List ℤ)) (before : List Member) (k : Member) (after : List Member) → IsKernel m vectors (before ++ (k ∷ after))
+KernelMember = (m : ℕ) (vectors : List (List ℤ)) (before : List Member) (k : Member) (after : List Member)
+    → IsKernel m vectors (before ++ (k ∷ after))
     → (g : List ℤ) → length g ≡ m → Annihilates vectors g → All (λ l. entry g l.own ≡ pos 0) (before ++ after) → IsVectorMultiple g k.vector
 
 -- no vector that annihilates the vectors ends before the least own place k, and those that end there are multiples of its member
 abbrev pub KernelEarliest : Type 0
-KernelEarliest = (m : ℕ) (vectors : List (List ℤ)) (k : Member) (ks : List Member) → IsKernel m vectors (k ∷ ks) → All (λ l. k.own ≤ l.own) ks
+KernelEarliest = (m : ℕ) (vectors : List (List ℤ)) (k : Member) (ks : List Member) → IsKernel m vectors (k ∷ ks)
+    → All (λ l. k.own ≤ l.own) ks
     → (g : List ℤ) → length g ≡ m → Annihilates vectors g → (j : ℕ) → EndsAt g j → (k.own ≤ j) × (j ≡ k.own → IsVectorMultiple g k.vector)
 
 -- where all vectors that annihilate are multiples of one that isn't 0, m - 1 of the vectors have the same annihilators

@@ -53,7 +53,8 @@ record Along (n : ℕ) (points : List (List ℤ)) (r : List ℤ) : Type 0 where
   all : (f : Affine) → IsFacet n points f → IsAlong (vector_of f) r → In f functions
 
 -- a function along which a facet lies is nonnegative
-along_above : (n : ℕ) (points : List (List ℤ)) (r : List ℤ) (f : Affine) → IsFacet n points f → IsAlong (vector_of f) r → IsAbove (lifted points) r
+along_above : (n : ℕ) (points : List (List ℤ)) (r : List ℤ) (f : Affine) → IsFacet n points f → IsAlong (vector_of f) r
+    → IsAbove (lifted points) r
 along_above n points r f facet h = record {
   at = λ v i. nonnegative_factor h.right (dot r v) h.right_positive
       (nonnegative_same (h.same v) (product_nonnegative h.left (dot (vector_of f) v) (nonnegative_weaker h.left_positive) (above.at v i)));
@@ -63,7 +64,8 @@ along_above n points r f facet h = record {
     above = above_from_nonnegative points f facet.nonnegative
 
 -- a facet along r is the facet of the ray r
-along_same : (n : ℕ) (points : List (List ℤ)) → AreSolid n points → (r : List ℤ) → (g : FacetOf n points r) → (f : Affine) → IsFacet n points f
+along_same : (n : ℕ) (points : List (List ℤ)) → AreSolid n points → (r : List ℤ) → (g : FacetOf n points r) → (f : Affine)
+    → IsFacet n points f
     → IsAlong (vector_of f) r → g.function ≡ f
 along_same n points solid r g f facet h = same_from_multiple n points solid g.function f g.facet facet.primitive facet.nonnegative
     (multiple_from_vectors n f g.function facet.dimension g.facet.dimension
@@ -88,7 +90,12 @@ along_ray n points solid r l somewhere determined = by (find_negative (lifted po
     clash a h k = absurd (omega (arith, linear))
 
     by : IsAbove (lifted points) r ⊎ Negative (lifted points) r → Along n points r
-    by (inl above) = found (facet_of_ray n points solid.coordinates r (record { long = l; above = above; somewhere = somewhere; determined = determined }))
+    by (inl above) = found (facet_of_ray n points solid.coordinates r (record {
+      long = l;
+      above = above;
+      somewhere = somewhere;
+      determined = determined;
+    }))
     by (inr n') = record {
       functions = [];
       facets = empty;
@@ -138,7 +145,8 @@ multiple_along f k m s n = by (positive_or_negative m.left m.nonzero) (positive_
     opposite : (y : List ℤ) → dot (scaled (neg_ℤ (pos 1)) k) y ≡ neg_ℤ (pos 1) *ℤ dot k y
     opposite y = dot-scaled_left (neg_ℤ (pos 1)) k y
 
-    by : (pos 0 <ℤ m.left) ⊎ (pos 0 <ℤ neg_ℤ m.left) → (pos 0 <ℤ m.right) ⊎ (pos 0 <ℤ neg_ℤ m.right) → IsAlong f k ⊎ IsAlong f (scaled (neg_ℤ (pos 1)) k)
+    by : (pos 0 <ℤ m.left) ⊎ (pos 0 <ℤ neg_ℤ m.left) → (pos 0 <ℤ m.right) ⊎ (pos 0 <ℤ neg_ℤ m.right)
+        → IsAlong f k ⊎ IsAlong f (scaled (neg_ℤ (pos 1)) k)
     by (inl p) (inl q) = inl (record { left = m.left; left_positive = p; right = m.right; right_positive = q; same = m.same })
     by (inr p) (inr q) = inl (record {
       left = neg_ℤ m.left;
@@ -166,14 +174,20 @@ multiple_along f k m s n = by (positive_or_negative m.left m.nonzero) (positive_
     })
 
 -- a facet isn't 0 at some vector
-facet_somewhere : (n : ℕ) (points : List (List ℤ)) → AreSolid n points → (f : Affine) → IsFacet n points f → Nonzero (lifted points) (vector_of f)
+facet_somewhere : (n : ℕ) (points : List (List ℤ)) → AreSolid n points → (f : Affine) → IsFacet n points f
+    → Nonzero (lifted points) (vector_of f)
 facet_somewhere n points solid f facet = by (facet_positive n points solid f facet)
   where
     by : (p : List ℤ) × In p points × (pos 0 <ℤ value f p) → Nonzero (lifted points) (vector_of f)
-    by (p, i, q) = record { place = pos 1 ∷ p; inside = in_lifted i; nonzero = λ e. positive_nonzero (value f p) q (sym (lifted_value f p) ∙ e) }
+    by (p, i, q) = record {
+      place = pos 1 ∷ p;
+      inside = in_lifted i;
+      nonzero = λ e. positive_nonzero (value f p) q (sym (lifted_value f p) ∙ e);
+    }
 
 -- one member of the kernel: it and its negative
-single_candidates : (n : ℕ) (points chosen : List (List ℤ)) → AreSolid n points → ((v : List ℤ) → In v chosen → In v (lifted points)) → (k : Member)
+single_candidates : (n : ℕ) (points chosen : List (List ℤ)) → AreSolid n points → ((v : List ℤ) → In v chosen → In v (lifted points))
+    → (k : Member)
     → IsKernel (suc n) chosen (k ∷ []) → Nonzero (lifted points) k.vector → Candidates n points chosen
 single_candidates n points chosen solid among k h somewhere = both
     (along_ray n points solid k.vector long somewhere (λ g l a. multiple_of g k.vector
@@ -205,8 +219,10 @@ single_candidates n points chosen solid among k h somewhere = both
     zero_opposite : (v : List ℤ) → dot k.vector v ≡ pos 0 → dot minus v ≡ pos 0
     zero_opposite v z = opposite v ∙ ap (λ (z : ℤ). neg_ℤ (pos 1) *ℤ z) z
 
-    annihilates : {r : List ℤ} (g : List ℤ) → ((v : List ℤ) → dot k.vector v ≡ pos 0 → dot r v ≡ pos 0) → VanishesAlong (lifted points) r g → Annihilates chosen g
-    annihilates g same a = all_from_each (each_from_in chosen (λ v i. a.at v (among v i) (same v (each_in (each_from_all (λ w. dot k.vector w ≡ pos 0) chosen kills) i))))
+    annihilates : {r : List ℤ} (g : List ℤ) → ((v : List ℤ) → dot k.vector v ≡ pos 0 → dot r v ≡ pos 0) → VanishesAlong (lifted points) r g
+        → Annihilates chosen g
+    annihilates g same a = all_from_each
+        (each_from_in chosen (λ v i. a.at v (among v i) (same v (each_in (each_from_all (λ w. dot k.vector w ≡ pos 0) chosen kills) i))))
 
     of_minus : (g : List ℤ) → IsMultipleOf g k.vector → IsMultipleOf g minus
     of_minus g m = record {
@@ -226,20 +242,24 @@ single_candidates n points chosen solid among k h somewhere = both
           (facet_somewhere n points solid f facet).nonzero);
     }
       where
-        by : (f : Affine) → IsFacet n points f → IsAlong (vector_of f) k.vector ⊎ IsAlong (vector_of f) minus → In f (a.functions ++ b.functions)
+        by : (f : Affine) → IsFacet n points f → IsAlong (vector_of f) k.vector ⊎ IsAlong (vector_of f) minus
+            → In f (a.functions ++ b.functions)
         by f facet (inl h) = in_append_left b.functions (a.all f facet h)
         by f facet (inr h) = in_append_right a.functions (b.all f facet h)
 
 -- no facet has these zeros
-no_candidates : (n : ℕ) (points chosen : List (List ℤ)) → ((f : Affine) → IsFacet n points f → WithZeros points chosen f → ⊥) → Candidates n points chosen
+no_candidates : (n : ℕ) (points chosen : List (List ℤ)) → ((f : Affine) → IsFacet n points f → WithZeros points chosen f → ⊥)
+    → Candidates n points chosen
 no_candidates n points chosen h = record { functions = []; facets = empty; all = λ f facet z. absurd (h f facet z) }
 
 -- the facets with given zeros are a list, by the members of the kernel
-pub candidates : (n : ℕ) (points chosen : List (List ℤ)) → AreSolid n points → ((v : List ℤ) → In v chosen → In v (lifted points)) → Candidates n points chosen
+pub candidates : (n : ℕ) (points chosen : List (List ℤ)) → AreSolid n points → ((v : List ℤ) → In v chosen → In v (lifted points))
+    → Candidates n points chosen
 candidates n points chosen solid among = by kernel.0 kernel.2
   where
     kernel : (ks : List Member) × (pivots : List (List ℤ)) × IsKernel (suc n) chosen ks × ArePivots (suc n) chosen pivots ks
-    kernel = kernel_exists_lem (suc n) chosen (all_from_each (each_from_in chosen (λ v i. lifted_dimension n points solid.dimension v (among v i))))
+    kernel = kernel_exists_lem (suc n) chosen
+        (all_from_each (each_from_in chosen (λ v i. lifted_dimension n points solid.dimension v (among v i))))
 
     single : (k : Member) → IsKernel (suc n) chosen (k ∷ []) → ((v : List ℤ) → In v (lifted points) → dot k.vector v ≡ pos 0) ⊎ Nonzero
         (lifted points) k.vector → Candidates n points chosen

@@ -32,7 +32,8 @@ above_low-over n i low h x d = let e = dot-unit n i x h in simp products_out (om
 -- from above
 pub below_high-over : (n i : ℕ) (high : ℤ) → i < n → (x : List ℤ) (d : ℤ) → value_over (below_high n i high) x d ≡ d *ℤ high -ℤ entry x i
 unfolding below_high
-below_high-over n i high h x d = let e = dot-scaled_left (neg_ℤ (pos 1)) (unit n i) x ∙ ap (λ (z : ℤ). neg_ℤ (pos 1) *ℤ z) (dot-unit n i x h) in minus
+below_high-over n i high h x d = let e = dot-scaled_left (neg_ℤ (pos 1)) (unit n i) x ∙ ap (λ (z : ℤ). neg_ℤ (pos 1) *ℤ z)
+    (dot-unit n i x h) in minus
     (dot (scaled (neg_ℤ (pos 1)) (unit n i)) x) (entry x i) (d *ℤ high) e
   where
     minus : (a b c : ℤ) → a ≡ neg_ℤ (pos 1) *ℤ b → a +ℤ c ≡ c -ℤ b

@@ -15,19 +15,28 @@ use Rattle.facet_theory.proofs.Lifted.{vector_of, lifted, in_lifted, from_lifted
 use Rattle.facet_theory.proofs.Signs.{nonnegative_same, positive_from, nonnegative_at}
 
 -- a facet is positive at some point
-pub facet_positive : (n : ℕ) (points : List (List ℤ)) → AreSolid n points → (f : Affine) → IsFacet n points f → (p : List ℤ) × In p points × (pos 0 <ℤ value f p)
+pub facet_positive : (n : ℕ) (points : List (List ℤ)) → AreSolid n points → (f : Affine) → IsFacet n points f
+    → (p : List ℤ) × In p points × (pos 0 <ℤ value f p)
 facet_positive n points solid f facet = by (find_nonzero (lifted points) (vector_of f))
   where
-    at : (v : List ℤ) → dot (vector_of f) v ≢ pos 0 → (p : List ℤ) × In p points × (v ≡ pos 1 ∷ p) → (p : List ℤ) × In p points × (pos 0 <ℤ value f p)
-    at v n' (p, i, e) = (p, i, positive_from (value f p) (nonnegative_at points f facet.nonnegative i) (λ z. n' (ap (dot (vector_of f)) e ∙ lifted_value f p ∙ z)))
+    at : (v : List ℤ) → dot (vector_of f) v ≢ pos 0 → (p : List ℤ) × In p points × (v ≡ pos 1 ∷ p)
+        → (p : List ℤ) × In p points × (pos 0 <ℤ value f p)
+    at v n' (p, i, e) = (
+      p,
+      i,
+      positive_from (value f p) (nonnegative_at points f facet.nonnegative i)
+          (λ z. n' (ap (dot (vector_of f)) e ∙ lifted_value f p ∙ z)),
+    )
 
-    by : ((v : List ℤ) → In v (lifted points) → dot (vector_of f) v ≡ pos 0) ⊎ Nonzero (lifted points) (vector_of f) → (p : List ℤ) × In p points × (pos 0 <ℤ value f p)
+    by : ((v : List ℤ) → In v (lifted points) → dot (vector_of f) v ≡ pos 0) ⊎ Nonzero (lifted points) (vector_of f)
+        → (p : List ℤ) × In p points × (pos 0 <ℤ value f p)
     by (inl z) = absurd (primitive_nonzero f.normal facet.primitive
         (all_from_each (zero_function n points solid f facet.dimension (λ p i. sym (lifted_value f p) ∙ z (pos 1 ∷ p) (in_lifted i))).1))
     by (inr k) = at k.place k.nonzero (from_lifted points k.place k.inside)
 
 -- two functions with primitive normals on one line, of which the first is k times the second with a k that isn't negative, are equal
-same_normals : (k : ℤ) (a b : List ℤ) → pos 0 ≤ℤ k → IsPrimitive b → a ≡ scaled k b → (a ≡ b) ⊎ (a ≡ scaled (negsuc 0) b) → (a ≡ b) × (k ≡ pos 1)
+same_normals : (k : ℤ) (a b : List ℤ) → pos 0 ≤ℤ k → IsPrimitive b → a ≡ scaled k b → (a ≡ b) ⊎ (a ≡ scaled (negsuc 0) b)
+    → (a ≡ b) × (k ≡ pos 1)
 same_normals k a b h primitive e cases = by (primitive_combination b primitive) cases
   where
     by : (c : List ℤ) × (dot c b ≡ pos 1) → (a ≡ b) ⊎ (a ≡ scaled (negsuc 0) b) → (a ≡ b) × (k ≡ pos 1)
@@ -56,16 +65,19 @@ same_from_multiple n points solid f g facet primitive nonnegative m = by
         (primitive_same m.left m.right g.normal f.normal m.nonzero primitive facet.primitive m.normals))
       where
         constants : g.constant ≡ k *ℤ f.constant
-        constants = cancel_left m.left g.constant (k *ℤ f.constant) m.nonzero (m.constants ∙ ap (λ (z : ℤ). z *ℤ f.constant) e ∙ *ℤ_assoc m.left k f.constant)
+        constants = cancel_left m.left g.constant (k *ℤ f.constant) m.nonzero (m.constants ∙ ap (λ (z : ℤ). z *ℤ f.constant) e
+            ∙ *ℤ_assoc m.left k f.constant)
 
         scaled_value : (a b c d k : ℤ) → a ≡ k *ℤ c → b ≡ k *ℤ d → a +ℤ b ≡ k *ℤ (c +ℤ d)
         scaled_value a b c d k e e' = rw (e, e') (simp products_out (omega (arith, linear)))
 
         values : value g p ≡ k *ℤ value f p
-        values = scaled_value (dot g.normal p) g.constant (dot f.normal p) f.constant k (ap (λ (x : List ℤ). dot x p) e' ∙ dot-scaled_left k f.normal p) constants
+        values = scaled_value (dot g.normal p) g.constant (dot f.normal p) f.constant k (ap (λ (x : List ℤ). dot x p) e'
+            ∙ dot-scaled_left k f.normal p) constants
 
         at_least : pos 0 ≤ℤ k
-        at_least = nonnegative_factor (value f p) k positive (nonnegative_same (values ∙ *ℤ_comm k (value f p)) (nonnegative_at points g nonnegative i))
+        at_least = nonnegative_factor (value f p) k positive
+            (nonnegative_same (values ∙ *ℤ_comm k (value f p)) (nonnegative_at points g nonnegative i))
 
         done : (g.normal ≡ f.normal) × (k ≡ pos 1) → f ≡ g
         done (same, one) = same_functions f g (sym same) (sym (constants ∙ ap (λ (z : ℤ). z *ℤ f.constant) one ∙ one-*ℤ f.constant))

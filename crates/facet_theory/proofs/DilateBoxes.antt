@@ -33,17 +33,20 @@ first_dilate_is_hull_lem n points solid x = (to, from)
 -- a function that is nonnegative on the points is nonnegative on the dilate, its constant taken j times
 nonnegative_over : (n : ℕ) (points : List (List ℤ)) → AreSolid n points → (j : ℕ) (x : List ℤ) → IsDilatePoint n points j x
     → (f : Affine) → length f.normal ≡ n → IsNonnegative points f → pos 0 ≤ℤ value_over f x (pos j)
-nonnegative_over n points solid j x dilate f e h = sum_nonnegative n points f (facets_generate_lem n points solid f e h) x (pos j) dilate.inside
+nonnegative_over n points solid j x dilate f e h = sum_nonnegative n points f (facets_generate_lem n points solid f e h) x
+    (pos j) dilate.inside
 
 -- the law on boxes
 pub dilate_in_box_lem : DilateInBox
 dilate_in_box_lem n points solid j x dilate i l low high within = (
   order_from (pos j *ℤ low) (entry x i) (nonnegative_same (above_low-over n i low l x (pos j))
       (nonnegative_over n points solid j x dilate (above_low n i low) (length-above_low n i low)
-      (nonnegative_from points (above_low n i low) (λ q m. nonnegative_same (sym (above_low-value n i low l q)) (difference_from low (entry q i) (at q m).0))))),
+      (nonnegative_from points (above_low n i low) (λ q m. nonnegative_same (sym (above_low-value n i low l q))
+      (difference_from low (entry q i) (at q m).0))))),
   order_from (entry x i) (pos j *ℤ high) (nonnegative_same (below_high-over n i high l x (pos j))
       (nonnegative_over n points solid j x dilate (below_high n i high) (length-below_high n i high)
-      (nonnegative_from points (below_high n i high) (λ q m. nonnegative_same (sym (below_high-value n i high l q)) (difference_from (entry q i) high (at q m).1))))),
+      (nonnegative_from points (below_high n i high) (λ q m. nonnegative_same (sym (below_high-value n i high l q))
+      (difference_from (entry q i) high (at q m).1))))),
 )
   where
     at : (q : List ℤ) → In q points → (low ≤ℤ entry q i) × (entry q i ≤ℤ high)

@@ -41,8 +41,10 @@ same_two : {a b c d : ℤ} → a ≡ c → b ≡ d → (a ∷ (b ∷ [])) ≡ (c
 same_two e f = ap₂ (λ (x : ℤ) (y : ℤ). x ∷ (y ∷ [])) e f
 
 -- a function that is 0 at two corners is a multiple of the facet through them
-multiple_x : (normal : List ℤ) (c : ℤ) → length normal ≡ 2 → value (record { normal = normal; constant = c }) (pos 0 ∷ (pos 0 ∷ [])) ≡ pos 0 → value
-    (record { normal = normal; constant = c }) (pos 0 ∷ (pos 1 ∷ [])) ≡ pos 0 → IsMultiple (record { normal = normal; constant = c }) facet_x
+multiple_x : (normal : List ℤ) (c : ℤ) → length normal ≡ 2 → value (record { normal = normal; constant = c }) (pos 0 ∷ (pos 0 ∷ [])) ≡ pos 0
+    → value
+    (record { normal = normal; constant = c }) (pos 0 ∷ (pos 1 ∷ [])) ≡ pos 0
+    → IsMultiple (record { normal = normal; constant = c }) facet_x
 multiple_x [] c l e e' = absurd (omega arith)
 multiple_x (a ∷ []) c l e e' = absurd (omega arith)
 multiple_x (a ∷ (b ∷ [])) c l e e' = record {
@@ -54,8 +56,10 @@ multiple_x (a ∷ (b ∷ [])) c l e e' = record {
 }
 multiple_x (a ∷ (b ∷ (d ∷ rest))) c l e e' = absurd (omega arith)
 
-multiple_y : (normal : List ℤ) (c : ℤ) → length normal ≡ 2 → value (record { normal = normal; constant = c }) (pos 0 ∷ (pos 0 ∷ [])) ≡ pos 0 → value
-    (record { normal = normal; constant = c }) (pos 1 ∷ (pos 0 ∷ [])) ≡ pos 0 → IsMultiple (record { normal = normal; constant = c }) facet_y
+multiple_y : (normal : List ℤ) (c : ℤ) → length normal ≡ 2 → value (record { normal = normal; constant = c }) (pos 0 ∷ (pos 0 ∷ [])) ≡ pos 0
+    → value
+    (record { normal = normal; constant = c }) (pos 1 ∷ (pos 0 ∷ [])) ≡ pos 0
+    → IsMultiple (record { normal = normal; constant = c }) facet_y
 multiple_y [] c l e e' = absurd (omega arith)
 multiple_y (a ∷ []) c l e e' = absurd (omega arith)
 multiple_y (a ∷ (b ∷ [])) c l e e' = record {
@@ -67,8 +71,10 @@ multiple_y (a ∷ (b ∷ [])) c l e e' = record {
 }
 multiple_y (a ∷ (b ∷ (d ∷ rest))) c l e e' = absurd (omega arith)
 
-multiple_xy : (normal : List ℤ) (c : ℤ) → length normal ≡ 2 → value (record { normal = normal; constant = c }) (pos 1 ∷ (pos 0 ∷ [])) ≡ pos 0 → value
-    (record { normal = normal; constant = c }) (pos 0 ∷ (pos 1 ∷ [])) ≡ pos 0 → IsMultiple (record { normal = normal; constant = c }) facet_xy
+multiple_xy : (normal : List ℤ) (c : ℤ) → length normal ≡ 2 → value (record { normal = normal; constant = c }) (pos 1 ∷ (pos 0 ∷ []))
+    ≡ pos 0 → value
+    (record { normal = normal; constant = c }) (pos 0 ∷ (pos 1 ∷ [])) ≡ pos 0
+    → IsMultiple (record { normal = normal; constant = c }) facet_xy
 multiple_xy [] c l e e' = absurd (omega arith)
 multiple_xy (a ∷ []) c l e e' = absurd (omega arith)
 multiple_xy (a ∷ (b ∷ [])) c l e e' = record {
@@ -142,5 +148,6 @@ pub corner_solid : AreSolid 2 corner
 corner_solid = record {
   coordinates = omega arith;
   dimension = three (λ p. length p ≡ 2) refl refl refl;
-  solid = λ flat. flat.nonconstant.1 (entries_zero flat.function.normal flat.function.constant flat.dimension flat.vanishes flat.nonconstant.0);
+  solid = λ flat. flat.nonconstant.1
+      (entries_zero flat.function.normal flat.function.constant flat.dimension flat.vanishes flat.nonconstant.0);
 }

@@ -81,13 +81,17 @@ facet_of_multiple n points r h f e prim d p same = record { function = f; facet 
     positive = omega (arith, linear)
 
     determined : (g : Affine) → length g.normal ≡ n → VanishesWith points f g → IsMultiple g f
-    determined g l v = multiple_from_vectors n g f l e (multiple_through (vector_of g) r (vector_of f) (pos d) (h.determined (vector_of g) (ap suc l) along) same)
+    determined g l v = multiple_from_vectors n g f l e
+        (multiple_through (vector_of g) r (vector_of f) (pos d) (h.determined (vector_of g) (ap suc l) along) same)
       where
         with : VanishesAlong (lifted points) (vector_of f) (vector_of g)
         with = along_from_vanishes_with points f g v
 
         along : VanishesAlong (lifted points) r (vector_of g)
-        along = record { at = λ w i z. with.at w i (factor_zero (pos d) (dot (vector_of f) w) (positive_nonzero (pos d) positive) (sym (same w) ∙ z)) }
+        along = record {
+          at = λ w i z. with.at w i (factor_zero (pos d) (dot (vector_of f) w) (positive_nonzero (pos d) positive)
+              (sym (same w) ∙ z));
+        }
 
     facet : IsFacet n points f
     facet = record {
@@ -108,7 +112,8 @@ constant_zero c d e e' = omega (arith, ints)
 constant_divided : (c d k x : ℤ) → c *ℤ pos 1 +ℤ d ≡ pos 0 → d ≡ k *ℤ x → c ≡ k *ℤ neg_ℤ x
 constant_divided c d k x e e' = simp *ℤ-neg (omega (arith, linear, *ℤ-one c))
 
--- each ray is a positive multiple of a facet: divide by the gcd of the normal, which divides the constant too, since the ray is 0 at a point
+-- each ray is a positive multiple of a facet: divide by the gcd of the normal, which divides the constant too, since the ray is 0 at a
+-- point
 pub facet_of_ray : (n : ℕ) (points : List (List ℤ)) → 0 < n → (r : List ℤ) → IsRay (suc n) (lifted points) r → FacetOf n points r
 facet_of_ray n points pos_n [] h = absurd (omega (arith, h.long))
 facet_of_ray n points pos_n (c ∷ a) h = by (ray_zero n (lifted points) (c ∷ a) pos_n h)

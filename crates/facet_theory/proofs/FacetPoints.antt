@@ -27,7 +27,12 @@ unlifted points [] h = record { list = []; count = refl; same = refl; inside = �
 unlifted points (v ∷ vs) h = by (from_lifted points v (h v here)) (unlifted points vs (λ w i. h w (there i)))
   where
     by : (p : List ℤ) × In p points × (v ≡ pos 1 ∷ p) → Unlifted points vs → Unlifted points (v ∷ vs)
-    by (p, i, e) u = record { list = p ∷ u.list; count = ap suc u.count; same = ap₂ (λ (x : List ℤ) (xs : List (List ℤ)). x ∷ xs) e u.same; inside = inside }
+    by (p, i, e) u = record {
+      list = p ∷ u.list;
+      count = ap suc u.count;
+      same = ap₂ (λ (x : List ℤ) (xs : List (List ℤ)). x ∷ xs) e u.same;
+      inside = inside;
+    }
       where
         inside : (q : List ℤ) → In q (p ∷ u.list) → In q points
         inside q here = i
@@ -72,10 +77,13 @@ facet_by_points_lem n points solid f facet = by (few_determine_lem (suc n) z.lis
 
     by : (pivots : List (List ℤ)) × (length pivots + 1 ≡ suc n) × ((v : List ℤ) → Contains pivots v → Contains z.list v)
         × ((g : List ℤ) → length g ≡ suc n → Annihilates pivots g → Annihilates z.list g) → (on : List (List ℤ)) × (length on ≡ n)
-        × ((p : List ℤ) → Contains on p → Contains points p) × Vanishes on f × ((g : Affine) → length g.normal ≡ n → Vanishes on g → IsMultiple g f)
-    by (pivots, count, chosen, kernel) = at (unlifted points pivots (λ w i. z.among w (in_from_contains z.list (chosen w (contains_from_in i)))))
+        × ((p : List ℤ) → Contains on p → Contains points p) × Vanishes on f × ((g : Affine) → length g.normal ≡ n → Vanishes on g
+        → IsMultiple g f)
+    by (pivots, count, chosen, kernel) =
+        at (unlifted points pivots (λ w i. z.among w (in_from_contains z.list (chosen w (contains_from_in i)))))
       where
-        at : Unlifted points pivots → (on : List (List ℤ)) × (length on ≡ n) × ((p : List ℤ) → Contains on p → Contains points p) × Vanishes on f
+        at : Unlifted points pivots → (on : List (List ℤ)) × (length on ≡ n) × ((p : List ℤ) → Contains on p → Contains points p)
+            × Vanishes on f
             × ((g : Affine) → length g.normal ≡ n → Vanishes on g → IsMultiple g f)
         at u = (
           u.list,

@@ -18,10 +18,12 @@ copies zero f fs = fs
 copies (suc k) f fs = f ∷ copies k f fs
 
 -- the sum with the copies
-total-copies : (k : ℕ) (f : Affine) (fs : List Affine) (x : List ℤ) (d : ℤ) → total_over (copies k f fs) x d ≡ pos k *ℤ value_over f x d +ℤ total_over fs x d
+total-copies : (k : ℕ) (f : Affine) (fs : List Affine) (x : List ℤ) (d : ℤ) → total_over (copies k f fs) x d ≡ pos k *ℤ value_over f x d
+    +ℤ total_over fs x d
 unfolding copies
 total-copies zero f fs x d = simp products_out (omega (arith, linear))
-total-copies (suc k) f fs x d = let e = total-copies k f fs x d in one_more (value_over f x d) (total_over (copies k f fs) x d) (total_over fs x d) k e
+total-copies (suc k) f fs x d = let e = total-copies k f fs x d in
+    one_more (value_over f x d) (total_over (copies k f fs) x d) (total_over fs x d) k e
   where
     one_more : (v t s : ℤ) (k : ℕ) → t ≡ pos k *ℤ v +ℤ s → v +ℤ t ≡ pos (suc k) *ℤ v +ℤ s
     one_more v t s k e = omega (arith, ints)
@@ -39,7 +41,8 @@ record FacetsOf (n : ℕ) (points rays : List (List ℤ)) : Type 0 where
   sums : (x : List ℤ) (d : ℤ) → total rays (d ∷ x) ≡ total_over functions x d
 
 -- each ray by its facet, as often as it is a multiple of it
-facets_of_rays : (n : ℕ) (points : List (List ℤ)) → 0 < n → (rays : List (List ℤ)) → ((r : List ℤ) → In r rays → IsRay (suc n) (lifted points) r) → FacetsOf n points rays
+facets_of_rays : (n : ℕ) (points : List (List ℤ)) → 0 < n → (rays : List (List ℤ))
+    → ((r : List ℤ) → In r rays → IsRay (suc n) (lifted points) r) → FacetsOf n points rays
 facets_of_rays n points p [] h = record { functions = []; facets = empty; sums = λ x d. refl }
 facets_of_rays n points p (r ∷ rays) h = by (facet_of_ray n points p r (h r here)) (facets_of_rays n points p rays (λ s i. h s (there i)))
   where
@@ -72,6 +75,7 @@ facets_generate_lem n points solid f l h = by (rays_generate (suc n) (lifted poi
           positive = p;
           summands = fs.functions;
           are_facets = all_from_each fs.facets;
-          sums = λ x d. sum r.multiplier k (dot (vector_of f) (d ∷ x)) (value_over f x d) (total r.summands (d ∷ x)) (total_over fs.functions x d) e
+          sums = λ x d. sum r.multiplier k (dot (vector_of f) (d ∷ x)) (value_over f x d) (total r.summands (d ∷ x))
+              (total_over fs.functions x d) e
               (lifted_value_over f x d) (r.sums (d ∷ x)) (fs.sums x d);
         }

@@ -41,12 +41,14 @@ hull_by_facets_lem n points solid x l = (
 )
 
 -- the functions that say that the coordinate i is at least low, or at most high, at each point
-low_nonnegative : (n i : ℕ) (points : List (List ℤ)) (low : ℤ) → i < n → ((q : List ℤ) → In q points → low ≤ℤ entry q i) → IsNonnegative points (above_low n i low)
+low_nonnegative : (n i : ℕ) (points : List (List ℤ)) (low : ℤ) → i < n → ((q : List ℤ) → In q points → low ≤ℤ entry q i)
+    → IsNonnegative points (above_low n i low)
 low_nonnegative n i points low h least = nonnegative_from points (above_low n i low)
     (λ q j. nonnegative_same (sym (above_low-value n i low h q)) (difference_from low (entry q i) (least q j)))
 
 -- the upper one
-high_nonnegative : (n i : ℕ) (points : List (List ℤ)) (high : ℤ) → i < n → ((q : List ℤ) → In q points → entry q i ≤ℤ high) → IsNonnegative points (below_high n i high)
+high_nonnegative : (n i : ℕ) (points : List (List ℤ)) (high : ℤ) → i < n → ((q : List ℤ) → In q points → entry q i ≤ℤ high)
+    → IsNonnegative points (below_high n i high)
 high_nonnegative n i points high h most = nonnegative_from points (below_high n i high)
     (λ q j. nonnegative_same (sym (below_high-value n i high h q)) (difference_from (entry q i) high (most q j)))
 
@@ -78,14 +80,16 @@ reached i points j = by (smallest_of (λ q. entry q i) points j) (smallest_of (�
 
 -- no point is in the hull of none
 hull_of_none : (n : ℕ) (x : List ℤ) → InHull n [] x → ⊥
-hull_of_none n x h = negative (dot (zeros n) x) (dot-zeros n x) (h (record { normal = zeros n; constant = negsuc 0 }) (length-zeros n) (λ k d l. absurd (omega arith)))
+hull_of_none n x h = negative (dot (zeros n) x) (dot-zeros n x) (h (record { normal = zeros n; constant = negsuc 0 }) (length-zeros n)
+    (λ k d l. absurd (omega arith)))
   where
     negative : (a : ℤ) → a ≡ pos 0 → pos 0 ≤ℤ (a +ℤ negsuc 0) → ⊥
     negative a e k = absurd (omega (arith, linear))
 
 -- a point of the hull is within these bounds
 in_box : (n : ℕ) (points : List (List ℤ)) (x : List ℤ) → InHull n points x → (i : ℕ) → i < n → Reached i points
-    → (low : List ℤ) × (high : List ℤ) × Contains points low × Contains points high × (entry low i ≤ℤ entry x i) × (entry x i ≤ℤ entry high i)
+    → (low : List ℤ) × (high : List ℤ) × Contains points low × Contains points high × (entry low i ≤ℤ entry x i)
+    × (entry x i ≤ℤ entry high i)
 in_box n points x h i l r = (
   r.lowest,
   r.highest,
@@ -103,10 +107,12 @@ in_box n points x h i l r = (
     b = entry r.highest i
 
     at_low : pos 0 ≤ℤ (entry x i -ℤ a)
-    at_low = nonnegative_same (above_low-value n i a l x) (h (above_low n i a) (length-above_low n i a) (low_nonnegative n i points a l r.low))
+    at_low = nonnegative_same (above_low-value n i a l x)
+        (h (above_low n i a) (length-above_low n i a) (low_nonnegative n i points a l r.low))
 
     at_high : pos 0 ≤ℤ (b -ℤ entry x i)
-    at_high = nonnegative_same (below_high-value n i b l x) (h (below_high n i b) (length-below_high n i b) (high_nonnegative n i points b l r.high))
+    at_high = nonnegative_same (below_high-value n i b l x)
+        (h (below_high n i b) (length-below_high n i b) (high_nonnegative n i points b l r.high))
 
 -- the law on the box
 pub hull_in_box_lem : HullInBox
@@ -114,7 +120,8 @@ hull_in_box_lem n [] dims x h i l = absurd (hull_of_none n x h)
 hull_in_box_lem n (p ∷ points) dims x h i l = in_box n (p ∷ points) x h i l (reached i (p ∷ points) here)
 
 -- a direction that is nonnegative on the normals of facets has entries 0
-direction_zero : (n : ℕ) (points : List (List ℤ)) → AreSolid n points → (y : List ℤ) → ((f : Affine) → IsFacet n points f → pos 0 ≤ℤ dot f.normal y)
+direction_zero : (n : ℕ) (points : List (List ℤ)) → AreSolid n points → (y : List ℤ)
+    → ((f : Affine) → IsFacet n points f → pos 0 ≤ℤ dot f.normal y)
     → (i : ℕ) → i < n → Reached i points → entry y i ≡ pos 0
 direction_zero n points solid y h i l r = both (entry y i) at_low at_high
   where
@@ -134,10 +141,12 @@ direction_zero n points solid y h i l r = both (entry y i) at_low at_high
     b = entry r.highest i
 
     at_low : pos 0 ≤ℤ entry y i
-    at_low = nonnegative_same (above_low-direction n i a l y) (direction (above_low n i a) (length-above_low n i a) (low_nonnegative n i points a l r.low))
+    at_low = nonnegative_same (above_low-direction n i a l y)
+        (direction (above_low n i a) (length-above_low n i a) (low_nonnegative n i points a l r.low))
 
     at_high : pos 0 ≤ℤ neg_ℤ (entry y i)
-    at_high = nonnegative_same (below_high-direction n i b l y) (direction (below_high n i b) (length-below_high n i b) (high_nonnegative n i points b l r.high))
+    at_high = nonnegative_same (below_high-direction n i b l y)
+        (direction (below_high n i b) (length-below_high n i b) (high_nonnegative n i points b l r.high))
 
     both : (a : ℤ) → pos 0 ≤ℤ a → pos 0 ≤ℤ neg_ℤ a → a ≡ pos 0
     both a h k = omega (arith, linear)
@@ -150,10 +159,12 @@ facets_bound_lem n points solid y l h = zero_from_entries y (λ i. ⊎_elim
     (cases_lt i n))
 
 -- where a sum is positive, some term is
-some_positive : (n : ℕ) (points : List (List ℤ)) (fs : List Affine) (x : List ℤ) (d : ℤ) → Each (IsFacet n points) fs → pos 0 <ℤ total_over fs x d
+some_positive : (n : ℕ) (points : List (List ℤ)) (fs : List Affine) (x : List ℤ) (d : ℤ) → Each (IsFacet n points) fs
+    → pos 0 <ℤ total_over fs x d
     → (f : Affine) × IsFacet n points f × (pos 0 <ℤ value_over f x d)
 some_positive n points [] x d h p = absurd (omega (arith, linear))
-some_positive n points (f ∷ fs) x d (more facet facets) p = by (positive_or_not (value_over f x d)) (λ q. some_positive n points fs x d facets q)
+some_positive n points (f ∷ fs) x d (more facet facets) p =
+    by (positive_or_not (value_over f x d)) (λ q. some_positive n points fs x d facets q)
   where
     rest : (a b : ℤ) → a ≤ℤ pos 0 → pos 0 <ℤ (a +ℤ b) → pos 0 <ℤ b
     rest a b h k = omega (arith, linear)
@@ -183,8 +194,10 @@ some_positive_constant_lem n points solid = by (facets_generate_lem n points sol
 
     by : IsSumOfFacets n points one → (f : Affine) × IsFacet n points f × (pos 0 <ℤ f.constant)
     by s = found (some_positive n points s.summands [] (pos 1) (each_from_all (IsFacet n points) s.summands s.are_facets)
-        (positive_same (s.sums [] (pos 1)) (product_positive (pos s.multiplier) (value_over one [] (pos 1)) (positive_pos s.multiplier s.positive)
+        (positive_same (s.sums [] (pos 1)) (product_positive (pos s.multiplier) (value_over one [] (pos 1))
+        (positive_pos s.multiplier s.positive)
         (positive_same (sym (constant one)) (omega (arith, linear))))))
       where
-        found : (f : Affine) × IsFacet n points f × (pos 0 <ℤ value_over f [] (pos 1)) → (f : Affine) × IsFacet n points f × (pos 0 <ℤ f.constant)
+        found : (f : Affine) × IsFacet n points f × (pos 0 <ℤ value_over f [] (pos 1)) → (f : Affine) × IsFacet n points f
+            × (pos 0 <ℤ f.constant)
         found (f, facet, p) = (f, facet, positive_same (constant f) p)

@@ -17,7 +17,8 @@ use Rattle.facet_theory.proofs.Peak.{Peak, peak, peak_alone}
 use Rattle.facet_theory.proofs.Signs.{nonnegative_same, positive_from, nonnegative_at, nonnegative_from}
 
 -- a point at which some function is 0 that is positive at all other points is a vertex
-pub vertex_from_function : (n : ℕ) (points : List (List ℤ)) (v : List ℤ) → In v points → (g : Affine) → length g.normal ≡ n → value g v ≡ pos 0
+pub vertex_from_function : (n : ℕ) (points : List (List ℤ)) (v : List ℤ) → In v points → (g : Affine) → length g.normal ≡ n
+    → value g v ≡ pos 0
     → ((q : List ℤ) → In q points → q ≢ v → pos 0 <ℤ value g q) → IsVertex n points v
 vertex_from_function n points v i g l z positive = record { member = contains_from_in i; outside = outside }
   where
@@ -56,7 +57,8 @@ least_at_vertex_lem n points solid f l = by (some_point n points solid)
 
 -- what is nonnegative on the vertices is nonnegative on the points
 pub nonnegative_from_vertices : (n : ℕ) (points vertices : List (List ℤ)) → AreSolid n points
-    → ((v : List ℤ) → Contains vertices v ↔ IsVertex n points v) → (f : Affine) → length f.normal ≡ n → IsNonnegative vertices f → (p : List ℤ)
+    → ((v : List ℤ) → Contains vertices v ↔ IsVertex n points v) → (f : Affine) → length f.normal ≡ n → IsNonnegative vertices f
+    → (p : List ℤ)
     → In p points → pos 0 ≤ℤ value f p
 nonnegative_from_vertices n points vertices solid same f l h p i = by (least_at_vertex_lem n points solid f l)
   where
@@ -64,14 +66,17 @@ nonnegative_from_vertices n points vertices solid same f l h p i = by (least_at_
     chain a b h k = omega (arith, linear)
 
     by : (v : List ℤ) × IsVertex n points v × ((p : List ℤ) → Contains points p → value f v ≤ℤ value f p) → pos 0 ≤ℤ value f p
-    by (v, vertex, least) = chain (value f v) (value f p) (nonnegative_at vertices f h (in_from_contains vertices ((same v).1 vertex))) (least p (contains_from_in i))
+    by (v, vertex, least) = chain (value f v) (value f p) (nonnegative_at vertices f h (in_from_contains vertices ((same v).1 vertex)))
+        (least p (contains_from_in i))
 
 -- the vertices are among the points
-pub vertex_inside : (n : ℕ) (points vertices : List (List ℤ)) → ((v : List ℤ) → Contains vertices v ↔ IsVertex n points v) → (v : List ℤ) → In v vertices → In v points
+pub vertex_inside : (n : ℕ) (points vertices : List (List ℤ)) → ((v : List ℤ) → Contains vertices v ↔ IsVertex n points v) → (v : List ℤ)
+    → In v vertices → In v points
 vertex_inside n points vertices same v i = in_from_contains points ((same v).0 (contains_from_in i)).member
 
 -- a function that is 0 along f at the vertices is bounded by a multiple of f there, on both sides
-above_along : (m c a b : ℤ) → (c ≡ pos 1) ⊎ (c ≡ neg_ℤ (pos 1)) → pos 0 ≤ℤ a → (a ≡ pos 0 → b ≡ pos 0) → neg_ℤ m <ℤ b → b <ℤ m → pos 0 ≤ℤ (m *ℤ a +ℤ c *ℤ b)
+above_along : (m c a b : ℤ) → (c ≡ pos 1) ⊎ (c ≡ neg_ℤ (pos 1)) → pos 0 ≤ℤ a → (a ≡ pos 0 → b ≡ pos 0) → neg_ℤ m <ℤ b → b <ℤ m
+    → pos 0 ≤ℤ (m *ℤ a +ℤ c *ℤ b)
 above_along m c a b sign h along low high = by (zero_or_not a) sign
   where
     at_zero : a ≡ pos 0 → pos 0 ≤ℤ (m *ℤ a +ℤ c *ℤ b)
@@ -81,7 +86,8 @@ above_along m c a b sign h along low high = by (zero_or_not a) sign
     expanded = simp products_out (omega (arith, linear))
 
     large : a ≢ pos 0 → m ≤ℤ (m *ℤ a)
-    large n = let q : pos 0 ≤ℤ (a -ℤ pos 1) = omega (arith, linear) in let z : pos 0 ≤ℤ m = omega (arith, linear) in let s = product_nonnegative m
+    large n = let q : pos 0 ≤ℤ (a -ℤ pos 1) = omega (arith, linear) in let z : pos 0 ≤ℤ m = omega (arith, linear) in
+        let s = product_nonnegative m
         (a -ℤ pos 1) z q in let e = expanded in omega (arith, linear)
 
     minus : (x : ℤ) → neg_ℤ (pos 1) *ℤ x ≡ neg_ℤ x
@@ -94,7 +100,8 @@ above_along m c a b sign h along low high = by (zero_or_not a) sign
 
 -- so it is 0 along f at all of the points
 along_points : (n : ℕ) (points vertices : List (List ℤ)) → AreSolid n points → ((v : List ℤ) → Contains vertices v ↔ IsVertex n points v)
-    → (f g : Affine) → length f.normal ≡ n → length g.normal ≡ n → IsNonnegative points f → VanishesWith vertices f g → VanishesWith points f g
+    → (f g : Affine) → length f.normal ≡ n → length g.normal ≡ n → IsNonnegative points f → VanishesWith vertices f g
+    → VanishesWith points f g
 along_points n points vertices solid same f g l l' nonnegative along p c z = by (find_spread (value g) vertices)
   where
     by : Spread vertices (value g) → value g p ≡ pos 0
@@ -115,7 +122,8 @@ along_points n points vertices solid same f g l l' nonnegative along p c z = by 
             (nonnegative_from vertices (with_sign s) (at_vertex s sign)) p (in_from_contains points c))
 
         both : (a b m : ℤ) → a ≡ pos 0 → pos 0 ≤ℤ (m *ℤ a +ℤ pos 1 *ℤ b) → pos 0 ≤ℤ (m *ℤ a +ℤ neg_ℤ (pos 1) *ℤ b) → b ≡ pos 0
-        both a b m e h k = let h' = rw (e, *ℤ-zero m, one-*ℤ b) at h in let k' = simp products_out at (rw (e, *ℤ-zero m) at k) in omega (arith, linear)
+        both a b m e h k = let h' = rw (e, *ℤ-zero m, one-*ℤ b) at h in let k' = simp products_out at (rw (e, *ℤ-zero m) at k) in
+            omega (arith, linear)
 
 -- the law on the facets of the vertices
 pub facets_of_vertices_lem : FacetsOfVertices
@@ -125,8 +133,10 @@ facets_of_vertices_lem n points vertices solid same f = (to_vertices, to_points)
     to_vertices facet = record {
       dimension = facet.dimension;
       primitive = facet.primitive;
-      nonnegative = nonnegative_from vertices f (λ v i. nonnegative_at points f facet.nonnegative (vertex_inside n points vertices same v i));
-      determined = λ g l along. facet.determined g l (along_points n points vertices solid same f g facet.dimension l facet.nonnegative along);
+      nonnegative = nonnegative_from vertices f
+          (λ v i. nonnegative_at points f facet.nonnegative (vertex_inside n points vertices same v i));
+      determined = λ g l along. facet.determined g l
+          (along_points n points vertices solid same f g facet.dimension l facet.nonnegative along);
     }
 
     to_points : IsFacet n vertices f → IsFacet n points f
@@ -134,5 +144,6 @@ facets_of_vertices_lem n points vertices solid same f = (to_vertices, to_points)
       dimension = facet.dimension;
       primitive = facet.primitive;
       nonnegative = nonnegative_from points f (nonnegative_from_vertices n points vertices solid same f facet.dimension facet.nonnegative);
-      determined = λ g l along. facet.determined g l (λ v c z. along v (contains_from_in (vertex_inside n points vertices same v (in_from_contains vertices c))) z);
+      determined = λ g l along. facet.determined g l
+          (λ v c z. along v (contains_from_in (vertex_inside n points vertices same v (in_from_contains vertices c))) z);
     }

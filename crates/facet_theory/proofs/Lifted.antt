@@ -60,18 +60,23 @@ pub nonnegative_from_above : (points : List (List ℤ)) (f : Affine) → IsAbove
 nonnegative_from_above points f h = nonnegative_from points f (λ p i. nonnegative_same (lifted_value f p) (h.at (pos 1 ∷ p) (in_lifted i)))
 
 -- vanishing along a function
-pub along_from_vanishes_with : (points : List (List ℤ)) (f g : Affine) → VanishesWith points f g → VanishesAlong (lifted points) (vector_of f) (vector_of g)
+pub along_from_vanishes_with : (points : List (List ℤ)) (f g : Affine) → VanishesWith points f g
+    → VanishesAlong (lifted points) (vector_of f) (vector_of g)
 along_from_vanishes_with points f g h = record { at = λ v i. by v (from_lifted points v i) }
   where
     by : (v : List ℤ) → (p : List ℤ) × In p points × (v ≡ pos 1 ∷ p) → dot (vector_of f) v ≡ pos 0 → dot (vector_of g) v ≡ pos 0
-    by v (p, i, e) z = ap (dot (vector_of g)) e ∙ lifted_value g p ∙ h p (contains_from_in i) (sym (lifted_value f p) ∙ sym (ap (dot (vector_of f)) e) ∙ z)
+    by v (p, i, e) z = ap (dot (vector_of g)) e ∙ lifted_value g p
+        ∙ h p (contains_from_in i) (sym (lifted_value f p) ∙ sym (ap (dot (vector_of f)) e) ∙ z)
 
 -- and back
-pub vanishes_with_from_along : (points : List (List ℤ)) (f g : Affine) → VanishesAlong (lifted points) (vector_of f) (vector_of g) → VanishesWith points f g
-vanishes_with_from_along points f g h p c z = sym (lifted_value g p) ∙ h.at (pos 1 ∷ p) (in_lifted (in_from_contains points c)) (lifted_value f p ∙ z)
+pub vanishes_with_from_along : (points : List (List ℤ)) (f g : Affine) → VanishesAlong (lifted points) (vector_of f) (vector_of g)
+    → VanishesWith points f g
+vanishes_with_from_along points f g h p c z = sym (lifted_value g p) ∙ h.at (pos 1 ∷ p) (in_lifted (in_from_contains points c))
+    (lifted_value f p ∙ z)
 
 -- multiples
-pub multiple_from_vectors : (n : ℕ) (g f : Affine) → length g.normal ≡ n → length f.normal ≡ n → IsMultipleOf (vector_of g) (vector_of f) → IsMultiple g f
+pub multiple_from_vectors : (n : ℕ) (g f : Affine) → length g.normal ≡ n → length f.normal ≡ n → IsMultipleOf (vector_of g) (vector_of f)
+    → IsMultiple g f
 multiple_from_vectors n g f e e' h = by (vector_multiple (suc n) (vector_of g) (vector_of f) (ap suc e) (ap suc e') h)
   where
     by : IsVectorMultiple (vector_of g) (vector_of f) → IsMultiple g f
@@ -97,7 +102,12 @@ lifted_dimension n points h v i = by (from_lifted points v i)
 
 -- no points would be flat
 pub some_point : (n : ℕ) (points : List (List ℤ)) → AreSolid n points → (p : List ℤ) × In p points
-some_point n [] h = absurd (h.solid (record { function = record { normal = unit n 0; constant = pos 0 }; dimension = length-unit n 0; nonconstant = (0, λ e. one_nonzero (sym (entry-unit_same n 0 h.coordinates) ∙ e)); vanishes = λ k d l. absurd (omega arith) }))
+some_point n [] h = absurd (h.solid (record {
+  function = record { normal = unit n 0; constant = pos 0 };
+  dimension = length-unit n 0;
+  nonconstant = (0, λ e. one_nonzero (sym (entry-unit_same n 0 h.coordinates) ∙ e));
+  vanishes = λ k d l. absurd (omega arith);
+}))
   where
     one_nonzero : pos 1 ≡ pos 0 → ⊥
     one_nonzero e = absurd (omega (arith, linear))
@@ -114,7 +124,8 @@ zero_function n points h f l z = by (zero_or_ends f.normal)
     no_constant : (p : List ℤ) → In p points → Each (λ a. a ≡ pos 0) f.normal → f.constant ≡ pos 0
     no_constant p i e = let v = z p i in let d = dot-zero f.normal p e in omega (arith, linear)
 
-    by : ((i : ℕ) → entry f.normal i ≡ pos 0) ⊎ ((k : ℕ) × (k < length f.normal) × EndsAt f.normal k) → (f.constant ≡ pos 0) × Each (λ a. a ≡ pos 0) f.normal
+    by : ((i : ℕ) → entry f.normal i ≡ pos 0) ⊎ ((k : ℕ) × (k < length f.normal) × EndsAt f.normal k)
+        → (f.constant ≡ pos 0) × Each (λ a. a ≡ pos 0) f.normal
     by (inl e) =
         let zeros : Each (λ a. a ≡ pos 0) f.normal = each_from_all (λ a. a ≡ pos 0) f.normal (zero_from_entries f.normal e) in
         let p : (p : List ℤ) × In p points = some_point n points h in

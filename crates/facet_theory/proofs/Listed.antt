@@ -45,7 +45,8 @@ collect_both n points chosen v rest a b = record {
   all = λ f facet w. by f facet w (zero_or_not (dot (vector_of f) v));
 }
   where
-    on : (f : Affine) → WithZerosFrom points chosen (v ∷ rest) f → dot (vector_of f) v ≡ pos 0 → (w : List ℤ) → In w (v ∷ chosen) → dot (vector_of f) w ≡ pos 0
+    on : (f : Affine) → WithZerosFrom points chosen (v ∷ rest) f → dot (vector_of f) v ≡ pos 0 → (w : List ℤ) → In w (v ∷ chosen)
+        → dot (vector_of f) w ≡ pos 0
     on f h z w here = z
     on f h z w (there i) = h.on w i
 
@@ -54,15 +55,18 @@ collect_both n points chosen v rest a b = record {
     with w (inr here) = inl here
     with w (inr (there i)) = inr i
 
-    without : (f : Affine) (w : List ℤ) → dot (vector_of f) v ≢ pos 0 → dot (vector_of f) w ≡ pos 0 → In w chosen ⊎ In w (v ∷ rest) → In w chosen ⊎ In w rest
+    without : (f : Affine) (w : List ℤ) → dot (vector_of f) v ≢ pos 0 → dot (vector_of f) w ≡ pos 0 → In w chosen ⊎ In w (v ∷ rest)
+        → In w chosen ⊎ In w rest
     without f w n' z (inl i) = inl i
     without f w n' z (inr here) = absurd (n' z)
     without f w n' z (inr (there i)) = inr i
 
-    by : (f : Affine) → IsFacet n points f → WithZerosFrom points chosen (v ∷ rest) f → (dot (vector_of f) v ≡ pos 0) ⊎ (dot (vector_of f) v ≢ pos 0)
+    by : (f : Affine) → IsFacet n points f → WithZerosFrom points chosen (v ∷ rest) f → (dot (vector_of f) v ≡ pos 0)
+        ⊎ (dot (vector_of f) v ≢ pos 0)
         → In f (a.functions ++ b.functions)
     by f facet w (inl z) = in_append_left b.functions (a.all f facet (record { on = on f w z; all = λ u i e. with u (w.all u i e) }))
-    by f facet w (inr n') = in_append_right a.functions (b.all f facet (record { on = w.on; all = λ u i e. without f u n' e (w.all u i e) }))
+    by f facet w (inr n') = in_append_right a.functions
+        (b.all f facet (record { on = w.on; all = λ u i e. without f u n' e (w.all u i e) }))
 
 -- by all choices from the rest
 collect : (n : ℕ) (points chosen rest : List (List ℤ)) → AreSolid n points → ((v : List ℤ) → In v chosen → In v (lifted points))
@@ -87,14 +91,19 @@ pub all_facets : (n : ℕ) (points : List (List ℤ)) → AreSolid n points → 
 all_facets n points solid = by (collect n points [] (lifted points) solid (λ v i. elim i [ ]) (λ v i. i))
   where
     by : Collected n points [] (lifted points) → AllFacets n points
-    by c = record { functions = c.functions; facets = c.facets; all = λ f facet. c.all f facet (record { on = λ v i. elim i [ ]; all = λ v i z. inr i }) }
+    by c = record {
+      functions = c.functions;
+      facets = c.facets;
+      all = λ f facet. c.all f facet (record { on = λ v i. elim i [ ]; all = λ v i z. inr i });
+    }
 
 -- the law on the list of facets
 pub facets_are_listed_lem : FacetsAreListed
 facets_are_listed_lem n points solid = by (all_facets n points solid)
   where
     by : AllFacets n points → (fs : List Affine) × AreFacets n points fs
-    by a = done (sort FunctionLess (λ f. length f.normal ≡ n) function_transitive (λ f g e e'. compare_functions f g (e ∙ sym e')) a.functions
+    by a = done (sort FunctionLess (λ f. length f.normal ≡ n) function_transitive (λ f g e e'. compare_functions f g (e ∙ sym e'))
+        a.functions
         (each_weaker (λ f facet. facet.dimension) a.facets))
       where
         done : Sorted FunctionLess a.functions → (fs : List Affine) × AreFacets n points fs

@@ -63,12 +63,19 @@ record Inserted {X : Type 0} (less : X → X → Type 0) (x : X) (ys : List X) :
 -- x put into its place in a list in order
 insert : {X : Type 0} (less : X → X → Type 0) (P : X → Type 0) → ((x y z : X) → less x y → less y z → less x z)
     → ((x y : X) → P x → P y → Compared less x y) → (x : X) → P x → (ys : List X) → Each P ys → Ascends less ys → Inserted less x ys
-insert {X = X} less P trans compare x p [] h a = record { list = x ∷ []; ascends = (all_from_each empty, tt); from = only; new = here; to = λ y i. elim i [ ] }
+insert {X = X} less P trans compare x p [] h a = record {
+  list = x ∷ [];
+  ascends = (all_from_each empty, tt);
+  from = only;
+  new = here;
+  to = λ y i. elim i [ ];
+}
   where
     only : (y : X) → In y (x ∷ []) → (y ≡ x) ⊎ In y []
     only y here = inl refl
     only y (there i) = inr i
-insert {X = X} less P trans compare x p (y ∷ ys) h a = by (compare x y p (each_head h)) (insert less P trans compare x p ys (each_tail h) a.1)
+insert {X = X} less P trans compare x p (y ∷ ys) h a =
+    by (compare x y p (each_head h)) (insert less P trans compare x p ys (each_tail h) a.1)
   where
     behind : Each (less y) ys
     behind = each_from_all (less y) ys a.0
@@ -82,8 +89,20 @@ insert {X = X} less P trans compare x p (y ∷ ys) h a = by (compare x y p (each
     first z (there i) = inr i
 
     by : Compared less x y → Inserted less x ys → Inserted less x (y ∷ ys)
-    by (before l) r = record { list = x ∷ (y ∷ ys); ascends = (all_from_each (each_from_in (y ∷ ys) (all_behind l)), a); from = first; new = here; to = λ z i. there i }
-    by (same e) r = record { list = y ∷ ys; ascends = a; from = λ z i. inr i; new = subst (λ (z : X). In z (y ∷ ys)) (sym e) here; to = λ z i. i }
+    by (before l) r = record {
+      list = x ∷ (y ∷ ys);
+      ascends = (all_from_each (each_from_in (y ∷ ys) (all_behind l)), a);
+      from = first;
+      new = here;
+      to = λ z i. there i;
+    }
+    by (same e) r = record {
+      list = y ∷ ys;
+      ascends = a;
+      from = λ z i. inr i;
+      new = subst (λ (z : X). In z (y ∷ ys)) (sym e) here;
+      to = λ z i. i;
+    }
     by (after l) r = record {
       list = y ∷ r.list;
       ascends = (all_from_each (each_from_in r.list (λ z i. later z (r.from z i))), r.ascends);
@@ -115,7 +134,8 @@ sort less P trans compare [] h = record { list = []; ascends = tt; from = λ x i
 sort {X = X} less P trans compare (x ∷ xs) h = by (sort less P trans compare xs (each_tail h))
   where
     by : Sorted less xs → Sorted less (x ∷ xs)
-    by s = done (insert less P trans compare x (each_head h) s.list (each_from_in s.list (λ y i. each_in (each_tail h) (s.from y i))) s.ascends)
+    by s = done (insert less P trans compare x (each_head h) s.list (each_from_in s.list (λ y i. each_in (each_tail h) (s.from y i)))
+        s.ascends)
       where
         done : Inserted less x s.list → Sorted less (x ∷ xs)
         done r = record { list = r.list; ascends = r.ascends; from = λ y i. back y (r.from y i); to = to }

@@ -25,7 +25,8 @@ pub vector_eq-true : (x y : List ℤ) → vector_eq x y ≡ true → x ≡ y
 vector_eq-true [] [] e = refl
 vector_eq-true [] (b ∷ y) e = absurd (false_true e)
 vector_eq-true (a ∷ x) [] e = absurd (false_true e)
-vector_eq-true (a ∷ x) (b ∷ y) e = let s = and_parts (int_eq a b) (vector_eq x y) e in ap₂ (λ (c : ℤ) (z : List ℤ). c ∷ z) (int_eq-true a b s.0) (vector_eq-true x y s.1)
+vector_eq-true (a ∷ x) (b ∷ y) e = let s = and_parts (int_eq a b) (vector_eq x y) e in
+    ap₂ (λ (c : ℤ) (z : List ℤ). c ∷ z) (int_eq-true a b s.0) (vector_eq-true x y s.1)
 
 -- a vector passes it with itself
 pub vector_eq_refl : (x : List ℤ) → vector_eq x x ≡ true
@@ -51,8 +52,12 @@ pub in_others : (points : List (List ℤ)) (v q : List ℤ) → In q (others poi
 in_others [] v q i = elim i [ ]
 in_others (p ∷ points) v q i = by (kept_or_later (vector_eq p v) q p (others points v) i) (λ j. in_others points v q j)
   where
-    by : ((vector_eq p v ≡ false) × (q ≡ p)) ⊎ In q (others points v) → (In q (others points v) → In q points × (q ≢ v)) → In q (p ∷ points) × (q ≢ v)
-    by (inl (e, s)) later = (subst (λ (x : List ℤ). In x (p ∷ points)) (sym s) here, λ t. false_true (sym e ∙ ap (vector_eq p) (sym t ∙ s) ∙ vector_eq_refl p))
+    by : ((vector_eq p v ≡ false) × (q ≡ p)) ⊎ In q (others points v) → (In q (others points v) → In q points × (q ≢ v))
+        → In q (p ∷ points) × (q ≢ v)
+    by (inl (e, s)) later = (
+      subst (λ (x : List ℤ). In x (p ∷ points)) (sym s) here,
+      λ t. false_true (sym e ∙ ap (vector_eq p) (sym t ∙ s) ∙ vector_eq_refl p),
+    )
     by (inr j) later = let r = later j in (there r.0, r.1)
 
 -- what is among the rest is kept

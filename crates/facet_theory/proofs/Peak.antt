@@ -11,7 +11,8 @@ use Rattle.facet_theory.proofs.Smallest.{Smallest, Spread, find_spread, smallest
 use Rattle.facet_theory.proofs.Coordinates.{above_low, length-above_low, above_low-value}
 use Rattle.facet_theory.proofs.Signs.{nonnegative_same}
 
--- a point at which f is least, and a nonnegative function that is 0 there and else only at points with the same value of f and the same first k entries
+-- a point at which f is least, and a nonnegative function that is 0 there and else only at points with the same value of f and the same
+-- first k entries
 pub record Peak (n : ℕ) (points : List (List ℤ)) (f : Affine) (k : ℕ) : Type 0 where
   pub place : List ℤ
   pub inside : In place points
@@ -43,7 +44,8 @@ first_peak n points f e p i = by (smallest_of (value f) points i)
       least = s.least;
       function = g;
       dimension = length-lowered n f (value f s.place) e;
-      nonnegative = λ q j. nonnegative_same (sym (value-lowered f (value f s.place) q)) (difference (value f s.place) (value f q) (s.least q j));
+      nonnegative = λ q j. nonnegative_same (sym (value-lowered f (value f s.place) q))
+          (difference (value f s.place) (value f q) (s.least q j));
       zero_there = value-lowered_self f s.place;
       same_value = λ q j z. equal (value f q) (value f s.place) (sym (value-lowered f (value f s.place) q) ∙ z);
       same_entries = λ q j z k l. absurd (omega arith);
@@ -74,7 +76,8 @@ next_peak n points f k l p = by (find_spread (λ q. entry q k) points)
           inside = s.inside;
           least = λ q i. subst (λ (z : ℤ). z ≤ℤ value f q) (sym (p.same_value s.place s.inside on)) (p.least q i);
           function = g;
-          dimension = length-mixed n large p.function (pos 1) (above_low n k (entry s.place k)) p.dimension (length-above_low n k (entry s.place k));
+          dimension = length-mixed n large p.function (pos 1) (above_low n k (entry s.place k)) p.dimension
+              (length-above_low n k (entry s.place k));
           nonnegative = λ q i. nonnegative_same (sym (values q))
               (nonnegative large (value p.function s.place) (value p.function q) (entry s.place k) (entry q k) on (s.least q i));
           zero_there = values s.place ∙ zero_value large (value p.function s.place) (entry s.place k) on;
@@ -86,7 +89,8 @@ next_peak n points f k l p = by (find_spread (λ q. entry q k) points)
             g = mixed large p.function (pos 1) (above_low n k (entry s.place k))
 
             values : (q : List ℤ) → value g q ≡ large *ℤ value p.function q +ℤ (entry q k -ℤ entry s.place k)
-            values q = value-mixed large p.function (pos 1) (above_low n k (entry s.place k)) q ∙ ap (λ (z : ℤ). large *ℤ value p.function q +ℤ z)
+            values q = value-mixed large p.function (pos 1) (above_low n k (entry s.place k)) q
+                ∙ ap (λ (z : ℤ). large *ℤ value p.function q +ℤ z)
                 (one-*ℤ (value (above_low n k (entry s.place k)) q) ∙ above_low-value n k (entry s.place k) l q)
 
             nonnegative : (n a b x y : ℤ) → a ≡ pos 0 → (n *ℤ a +ℤ x) ≤ℤ (n *ℤ b +ℤ y) → pos 0 ≤ℤ (n *ℤ b +ℤ (y -ℤ x))
@@ -102,10 +106,13 @@ next_peak n points f k l p = by (find_spread (λ q. entry q k) points)
 
             on : value p.function s.place ≡ pos 0
             on = small b.number (value p.function s.place) (value p.function p.place) (entry s.place k) (entry p.place k)
-                (p.nonnegative s.place s.inside) p.zero_there (b.below s.place s.inside) (b.above p.place p.inside) (s.least p.place p.inside)
+                (p.nonnegative s.place s.inside) p.zero_there (b.below s.place s.inside) (b.above p.place p.inside)
+                (s.least p.place p.inside)
 
-            zero_small : (m : ℕ) (a x y : ℤ) → pos 0 ≤ℤ a → neg_ℤ (pos m) <ℤ x → y <ℤ pos m → (pos m +ℤ pos m) *ℤ a +ℤ (x -ℤ y) ≡ pos 0 → a ≡ pos 0
-            zero_small m a x y h c d e = small_multiple (pos m +ℤ pos m) a (y -ℤ x) h (omega (arith, linear)) (omega (arith, linear)) (omega (arith, linear))
+            zero_small : (m : ℕ) (a x y : ℤ) → pos 0 ≤ℤ a → neg_ℤ (pos m) <ℤ x → y <ℤ pos m → (pos m +ℤ pos m) *ℤ a +ℤ (x -ℤ y) ≡ pos 0
+                → a ≡ pos 0
+            zero_small m a x y h c d e = small_multiple (pos m +ℤ pos m) a (y -ℤ x) h (omega (arith, linear)) (omega (arith, linear))
+                (omega (arith, linear))
 
             zero_before : (q : List ℤ) → In q points → value g q ≡ pos 0 → value p.function q ≡ pos 0
             zero_before q i z = zero_small b.number (value p.function q) (entry q k) (entry s.place k) (p.nonnegative q i) (b.below q i)
@@ -122,12 +129,14 @@ next_peak n points f k l p = by (find_spread (λ q. entry q k) points)
                 (cases_lt j k)
 
 -- a peak for each number of entries
-pub peak : (n : ℕ) (points : List (List ℤ)) (f : Affine) → length f.normal ≡ n → (p : List ℤ) → In p points → (k : ℕ) → k ≤ n → Peak n points f k
+pub peak : (n : ℕ) (points : List (List ℤ)) (f : Affine) → length f.normal ≡ n → (p : List ℤ) → In p points → (k : ℕ) → k ≤ n
+    → Peak n points f k
 peak n points f e p i zero h = first_peak n points f e p i
 peak n points f e p i (suc k) h = next_peak n points f k (omega arith) (peak n points f e p i k (omega arith))
 
 -- with all entries told, the function is 0 at one point alone
-pub peak_alone : (n : ℕ) (points : List (List ℤ)) (f : Affine) → ((q : List ℤ) → In q points → length q ≡ n) → (p : Peak n points f n) → (q : List ℤ)
+pub peak_alone : (n : ℕ) (points : List (List ℤ)) (f : Affine) → ((q : List ℤ) → In q points → length q ≡ n) → (p : Peak n points f n)
+    → (q : List ℤ)
     → In q points → value p.function q ≡ pos 0 → q ≡ p.place
 peak_alone n points f dims p q i z = same_from_entries q p.place (dims q i ∙ sym (dims p.place p.inside)) (λ j. ⊎_elim
     (λ (c : j < n). p.same_entries q i z j c)

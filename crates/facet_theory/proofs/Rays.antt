@@ -1,4 +1,5 @@
--- The theorem on rays: each function that is nonnegative on vectors that span is, up to a positive multiple, a sum of rays. A ray is a nonnegative function of which all functions that are 0 along it are multiples.
+-- The theorem on rays: each function that is nonnegative on vectors that span is, up to a positive multiple, a sum of rays. A ray is a
+-- nonnegative function of which all functions that are 0 along it are multiples.
 use Rattle.std.proofs.Common.{◌≡◌, ◌≢◌, ℕ, zero, suc, ◌<◌, List, [], ◌∷◌, ◌++◌, length, map, ℤ, pos, ◌+ℤ◌, ◌*ℤ◌, neg_ℤ, ◌<ℤ◌, ◌⊎◌, inl, inr, sym, ap, ◌∙◌, arith}
 use Rattle.lattice_theory.specs.Vector.{dot, scaled, IsVectorMultiple}
 use Rattle.elimination.specs.Elimination.{Member, Annihilates, IsKernel, ArePivots}
@@ -108,20 +109,24 @@ total-append [] ss y = omega (arith, linear)
 total-append (r ∷ rs) ss y = let e = total-append rs ss y in omega (arith, linear)
 
 -- positive multiples of rays are rays
-rays_scaled : (m : ℕ) (S : List (List ℤ)) (k : ℤ) → pos 0 <ℤ k → (rs : List (List ℤ)) → ((r : List ℤ) → In r rs → IsRay m S r) → (r : List ℤ)
+rays_scaled : (m : ℕ) (S : List (List ℤ)) (k : ℤ) → pos 0 <ℤ k → (rs : List (List ℤ)) → ((r : List ℤ) → In r rs → IsRay m S r)
+    → (r : List ℤ)
     → In r (map (scaled k) rs) → IsRay m S r
 rays_scaled m S k p [] h r i = elim i [ ]
 rays_scaled m S k p (s ∷ rs) h r here = ray_scaled m S k s p (h s here)
 rays_scaled m S k p (s ∷ rs) h r (there i) = rays_scaled m S k p rs (λ t j. h t (there j)) r i
 
 -- where a positive multiple of f is made of two sums of rays, f is one
-sum_of_split : (m : ℕ) (S : List (List ℤ)) (f : List ℤ) (s : Split m S f) → IsSumOfRays m S s.left → IsSumOfRays m S s.right → IsSumOfRays m S f
+sum_of_split : (m : ℕ) (S : List (List ℤ)) (f : List ℤ) (s : Split m S f) → IsSumOfRays m S s.left → IsSumOfRays m S s.right
+    → IsSumOfRays m S f
 sum_of_split m S f s t u = record {
   multiplier = (t.multiplier *ℤ u.multiplier) *ℤ s.c;
-  positive = product_positive (t.multiplier *ℤ u.multiplier) s.c (product_positive t.multiplier u.multiplier t.positive u.positive) s.c_positive;
+  positive = product_positive (t.multiplier *ℤ u.multiplier) s.c
+      (product_positive t.multiplier u.multiplier t.positive u.positive) s.c_positive;
   summands = map (scaled k) t.summands ++ map (scaled l) u.summands;
   are_rays = rays;
-  sums = λ y. sum t.multiplier u.multiplier s.a s.b s.c (dot f y) (dot s.left y) (dot s.right y) (total t.summands y) (total u.summands y) (s.same y)
+  sums = λ y. sum t.multiplier u.multiplier s.a s.b s.c (dot f y) (dot s.left y) (dot s.right y) (total t.summands y) (total u.summands y)
+      (s.same y)
       (t.sums y) (u.sums y) ∙ sym (parts y);
 }
   where
@@ -138,12 +143,16 @@ sum_of_split m S f s t u = record {
         by (inl j) = rays_scaled m S k (product_positive u.multiplier s.a u.positive s.a_positive) t.summands t.are_rays r j
         by (inr j) = rays_scaled m S l (product_positive t.multiplier s.b t.positive s.b_positive) u.summands u.are_rays r j
 
-    parts : (y : List ℤ) → total (map (scaled k) t.summands ++ map (scaled l) u.summands) y ≡ k *ℤ total t.summands y +ℤ l *ℤ total u.summands y
+    parts : (y : List ℤ) → total (map (scaled k) t.summands ++ map (scaled l) u.summands) y ≡ k *ℤ total t.summands y
+        +ℤ l *ℤ total u.summands y
     parts y = let e = total-append (map (scaled k) t.summands)
-        (map (scaled l) u.summands) y in let e' = total-scaled k t.summands y in let e'' = total-scaled l u.summands y in omega (arith, linear)
+        (map (scaled l) u.summands) y in let e' = total-scaled k t.summands y in let e'' = total-scaled l u.summands y in
+        omega (arith, linear)
 
-    sum : (p q a b c f g h x z : ℤ) → c *ℤ f ≡ a *ℤ g +ℤ b *ℤ h → p *ℤ g ≡ x → q *ℤ h ≡ z → ((p *ℤ q) *ℤ c) *ℤ f ≡ (q *ℤ a) *ℤ x +ℤ (p *ℤ b) *ℤ z
-    sum p q a b c f g h x z e e' e'' = rw (← e', ← e'') (let w = simp products_out at (ap (λ (n : ℤ). (p *ℤ q) *ℤ n) e) in simp products_out (omega (arith, linear)))
+    sum : (p q a b c f g h x z : ℤ) → c *ℤ f ≡ a *ℤ g +ℤ b *ℤ h → p *ℤ g ≡ x → q *ℤ h ≡ z
+        → ((p *ℤ q) *ℤ c) *ℤ f ≡ (q *ℤ a) *ℤ x +ℤ (p *ℤ b) *ℤ z
+    sum p q a b c f g h x z e e' e'' = rw (← e', ← e'') (let w = simp products_out at (ap (λ (n : ℤ). (p *ℤ q) *ℤ n) e) in
+        simp products_out (omega (arith, linear)))
 
 -- between values at the zeros of f and what elimination says of them
 pub annihilates : (S : List (List ℤ)) (f g : List ℤ) (z : ZerosOf S f) → VanishesAlong S f g → Annihilates z.list g
@@ -197,7 +206,12 @@ multiple_or_split m S f g solid e e' above n a = by (find_nonzero S h)
     along = record { at = λ v i z. same v ∙ zero_terms x (neg_ℤ y) (dot g v) (dot f v) (a.at v i z) z }
 
     by : ((v : List ℤ) → In v S → dot h v ≡ pos 0) ⊎ Nonzero S h → IsMultipleOf g f ⊎ Split m S f
-    by (inl z) = inl (record { left = x; right = y; nonzero = n.nonzero; same = λ v. balanced x y (dot f v) (dot g v) (sym (same v) ∙ solid.only_zero h long z v) })
+    by (inl z) = inl (record {
+      left = x;
+      right = y;
+      nonzero = n.nonzero;
+      same = λ v. balanced x y (dot f v) (dot g v) (sym (same v) ∙ solid.only_zero h long z v);
+    })
     by (inr k) = inr (split m S f h e long above along n.place n.inside n.nonzero (same n.place ∙ cancelled x y) k.place k.inside k.nonzero)
 
 -- a nonnegative function that isn't 0 is a ray or splits
@@ -219,11 +233,13 @@ ray_or_split m S f solid dims e above n = by kernel.0 kernel.2
       long = e;
       above = above;
       somewhere = n;
-      determined = λ g l a. multiple_of_same g f k.vector (multiple_of g k.vector (single_kernel_lem m z.list k h g l (annihilates S f g z a)))
+      determined = λ g l a. multiple_of_same g f k.vector
+          (multiple_of g k.vector (single_kernel_lem m z.list k h g l (annihilates S f g z a)))
           (multiple_of f k.vector (single_kernel_lem m z.list k h f e f_annihilates)) n.place n.nonzero;
     }
 
-    many : (k l : Member) (ks : List Member) → IsKernel m z.list (k ∷ (l ∷ ks)) → length k.vector ≡ m → length l.vector ≡ m → IsMultipleOf k.vector f
+    many : (k l : Member) (ks : List Member) → IsKernel m z.list (k ∷ (l ∷ ks)) → length k.vector ≡ m → length l.vector ≡ m
+        → IsMultipleOf k.vector f
         ⊎ Split m S f → IsMultipleOf l.vector f ⊎ Split m S f → Split m S f
     many k l ks h long long' (inr s) t = s
     many k l ks h long long' (inl a) (inr s) = s
@@ -233,7 +249,8 @@ ray_or_split m S f solid dims e above n = by kernel.0 kernel.2
     by : (ks : List Member) → IsKernel m z.list ks → IsRay m S f ⊎ Split m S f
     by [] h = absurd (n.nonzero (dot-zero f n.place (each_from_all (λ a. a ≡ pos 0) f (empty_kernel_lem m z.list h f e f_annihilates))))
     by (k ∷ []) h = inl (single k h)
-    by (k ∷ (l ∷ ks)) h = inr (many k l ks h (each_head lengths) (each_head (each_tail lengths)) (candidate k (each_head lengths) (each_head kills))
+    by (k ∷ (l ∷ ks)) h = inr (many k l ks h (each_head lengths) (each_head (each_tail lengths))
+        (candidate k (each_head lengths) (each_head kills))
         (candidate l (each_head (each_tail lengths)) (each_head (each_tail kills))))
       where
         lengths : Each (λ (k : Member). length k.vector ≡ m) (k ∷ (l ∷ ks))
@@ -276,7 +293,8 @@ rays_below m S solid dims zero f e above h = absurd (omega arith)
 rays_below m S solid dims (suc bound) f e above h = by (find_nonzero S f) (λ n. ray_or_split m S f solid dims e above n)
     (λ g l a b. rays_below m S solid dims bound g l a b)
   where
-    both : ((g : List ℤ) → length g ≡ m → IsAbove S g → nonzeros S g < bound → IsSumOfRays m S g) → IsRay m S f ⊎ Split m S f → IsSumOfRays m S f
+    both : ((g : List ℤ) → length g ≡ m → IsAbove S g → nonzeros S g < bound → IsSumOfRays m S g) → IsRay m S f ⊎ Split m S f
+        → IsSumOfRays m S f
     both smaller (inl r) = sum_of_ray m S f r
     both smaller (inr s) = sum_of_split m S f s (smaller s.left s.left_long s.left_above (less s.left_fewer))
         (smaller s.right s.right_long s.right_above (less s.right_fewer))
@@ -290,5 +308,6 @@ rays_below m S solid dims (suc bound) f e above h = by (find_nonzero S f) (λ n.
     by (inr n) either smaller = both smaller (either n)
 
 -- each nonnegative function is a sum of rays, up to a positive multiple
-pub rays_generate : (m : ℕ) (S : List (List ℤ)) → IsSolid m S → ((v : List ℤ) → In v S → length v ≡ m) → (f : List ℤ) → length f ≡ m → IsAbove S f → IsSumOfRays m S f
+pub rays_generate : (m : ℕ) (S : List (List ℤ)) → IsSolid m S → ((v : List ℤ) → In v S → length v ≡ m) → (f : List ℤ) → length f ≡ m
+    → IsAbove S f → IsSumOfRays m S f
 rays_generate m S solid dims f e above = rays_below m S solid dims (suc (nonzeros S f)) f e above (omega arith)

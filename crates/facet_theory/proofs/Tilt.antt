@@ -1,4 +1,5 @@
--- From a function f that is nonnegative on S and a function h that is 0 along f: a function a f - b h that is nonnegative too, and 0 at more vectors.
+-- From a function f that is nonnegative on S and a function h that is 0 along f: a function a f - b h that is nonnegative too, and 0 at
+-- more vectors.
 use Rattle.std.proofs.Common.{◌≡◌, ◌≢◌, ℕ, ◌<◌, List, [], ◌∷◌, length, ℤ, pos, ◌+ℤ◌, ◌-ℤ◌, ◌*ℤ◌, neg_ℤ, ◌≤ℤ◌, ◌<ℤ◌, ◌⊎◌, inl, inr, sym, ap, ◌∙◌, arith}
 use Rattle.lattice_theory.specs.Vector.{dot, scaled}
 use Rattle.lattice_theory.proofs.Integers.{products_out, linear, positive_or_not, negative_or_not, product_nonnegative, product_positive, nonnegative_factor, positive_nonzero, zero_terms}
@@ -15,7 +16,8 @@ pub record Least (S : List (List ℤ)) (f h : List ℤ) : Type 0 where
   pub least : (v : List ℤ) → In v S → pos 0 <ℤ dot h v → (dot f place *ℤ dot h v) ≤ℤ (dot f v *ℤ dot h place)
 
 -- the order of quotients is transitive
-quotients_trans : (fv hv fa ha fw hw : ℤ) → pos 0 <ℤ hv → pos 0 <ℤ ha → pos 0 <ℤ hw → (fv *ℤ ha) ≤ℤ (fa *ℤ hv) → (fa *ℤ hw) ≤ℤ (fw *ℤ ha) → (fv *ℤ hw) ≤ℤ (fw *ℤ hv)
+quotients_trans : (fv hv fa ha fw hw : ℤ) → pos 0 <ℤ hv → pos 0 <ℤ ha → pos 0 <ℤ hw → (fv *ℤ ha) ≤ℤ (fa *ℤ hv) → (fa *ℤ hw) ≤ℤ (fw *ℤ ha)
+    → (fv *ℤ hw) ≤ℤ (fw *ℤ hv)
 quotients_trans fv hv fa ha fw hw p q r k l =
     let k' : pos 0 ≤ℤ (fa *ℤ hv -ℤ fv *ℤ ha) = omega (arith, linear) in
     let l' : pos 0 ≤ℤ (fw *ℤ ha -ℤ fa *ℤ hw) = omega (arith, linear) in
@@ -36,11 +38,14 @@ least_more S f h v p l = by (negative_or_not (dot f v *ℤ dot h l.place -ℤ do
     kept c w here q = omega (arith, linear)
     kept c w (there i) q = l.least w i q
 
-    new : (dot f v *ℤ dot h l.place -ℤ dot f l.place *ℤ dot h v) <ℤ pos 0 → (w : List ℤ) → In w (v ∷ S) → pos 0 <ℤ dot h w → (dot f v *ℤ dot h w) ≤ℤ (dot f w *ℤ dot h v)
+    new : (dot f v *ℤ dot h l.place -ℤ dot f l.place *ℤ dot h v) <ℤ pos 0 → (w : List ℤ) → In w (v ∷ S) → pos 0 <ℤ dot h w
+        → (dot f v *ℤ dot h w) ≤ℤ (dot f w *ℤ dot h v)
     new c w here q = omega (arith, linear)
-    new c w (there i) q = quotients_trans (dot f v) (dot h v) (dot f l.place) (dot h l.place) (dot f w) (dot h w) p l.positive q (omega (arith, linear)) (l.least w i q)
+    new c w (there i) q = quotients_trans (dot f v) (dot h v) (dot f l.place) (dot h l.place) (dot f w) (dot h w) p l.positive q
+        (omega (arith, linear)) (l.least w i q)
 
-    by : ((dot f v *ℤ dot h l.place -ℤ dot f l.place *ℤ dot h v) <ℤ pos 0) ⊎ (pos 0 ≤ℤ (dot f v *ℤ dot h l.place -ℤ dot f l.place *ℤ dot h v)) → Least (v ∷ S) f h
+    by : ((dot f v *ℤ dot h l.place -ℤ dot f l.place *ℤ dot h v) <ℤ pos 0)
+        ⊎ (pos 0 ≤ℤ (dot f v *ℤ dot h l.place -ℤ dot f l.place *ℤ dot h v)) → Least (v ∷ S) f h
     by (inl c) = record { place = v; inside = here; positive = p; least = new c }
     by (inr c) = record { place = l.place; inside = there l.inside; positive = l.positive; least = kept c }
 
@@ -89,7 +94,8 @@ pub record Tilted (m : ℕ) (S : List (List ℤ)) (f h : List ℤ) : Type 0 wher
   pub same : (y : List ℤ) → dot vector y ≡ a *ℤ dot f y +ℤ neg_ℤ b *ℤ dot h y
 
 -- the value at a vector is nonnegative
-tilted_nonnegative : (fv hv fa ha : ℤ) → pos 0 ≤ℤ fv → pos 0 ≤ℤ fa → pos 0 <ℤ ha → (pos 0 <ℤ hv → (fa *ℤ hv) ≤ℤ (fv *ℤ ha)) → pos 0 ≤ℤ (ha *ℤ fv +ℤ neg_ℤ fa *ℤ hv)
+tilted_nonnegative : (fv hv fa ha : ℤ) → pos 0 ≤ℤ fv → pos 0 ≤ℤ fa → pos 0 <ℤ ha → (pos 0 <ℤ hv → (fa *ℤ hv) ≤ℤ (fv *ℤ ha))
+    → pos 0 ≤ℤ (ha *ℤ fv +ℤ neg_ℤ fa *ℤ hv)
 tilted_nonnegative fv hv fa ha k l p c = by (positive_or_not hv)
   where
     by : (pos 0 <ℤ hv) ⊎ (hv ≤ℤ pos 0) → pos 0 ≤ℤ (ha *ℤ fv +ℤ neg_ℤ fa *ℤ hv)
@@ -102,7 +108,8 @@ tilted_nonnegative fv hv fa ha k l p c = by (positive_or_not hv)
         simp products_out (omega (arith, linear))
 
 -- the tilted function at the least quotient
-pub tilt : (m : ℕ) (S : List (List ℤ)) (f h : List ℤ) → length f ≡ m → length h ≡ m → IsAbove S f → VanishesAlong S f h → Least S f h → Tilted m S f h
+pub tilt : (m : ℕ) (S : List (List ℤ)) (f h : List ℤ) → length f ≡ m → length h ≡ m → IsAbove S f → VanishesAlong S f h → Least S f h
+    → Tilted m S f h
 tilt m S f h e e' above along l = record {
   vector = u;
   long = length-combined m a f (neg_ℤ b) h e e';
@@ -110,7 +117,8 @@ tilt m S f h e e' above along l = record {
     at = λ v i. nonnegative_same (sym (same v))
         (tilted_nonnegative (dot f v) (dot h v) b a (above.at v i) (above.at l.place l.inside) l.positive (l.least v i));
   };
-  fewer = nonzeros_lt S f u (record { at = λ v i z. same v ∙ zero_terms a (neg_ℤ b) (dot f v) (dot h v) z (along.at v i z) }) l.place l.inside nonzero
+  fewer = nonzeros_lt S f u (record { at = λ v i z. same v ∙ zero_terms a (neg_ℤ b) (dot f v) (dot h v) z (along.at v i z) }) l.place
+      l.inside nonzero
       (same l.place ∙ cancelled a b);
   a = a;
   a_positive = l.positive;
@@ -150,7 +158,8 @@ above_from a b e h = omega (arith, linear)
 above_from' : (a b : ℤ) → b ≡ neg_ℤ a → b ≤ℤ pos 0 → pos 0 ≤ℤ a
 above_from' a b e h = omega (arith, linear)
 
--- where h isn't 0 on all of S, but at a vector at which f isn't: a positive multiple of f is a sum of two functions that are nonnegative and 0 at more vectors
+-- where h isn't 0 on all of S, but at a vector at which f isn't: a positive multiple of f is a sum of two functions that are nonnegative
+-- and 0 at more vectors
 pub record Split (m : ℕ) (S : List (List ℤ)) (f : List ℤ) : Type 0 where
   pub left : List ℤ
   pub left_long : length left ≡ m
@@ -169,7 +178,8 @@ pub record Split (m : ℕ) (S : List (List ℤ)) (f : List ℤ) : Type 0 where
   pub same : (y : List ℤ) → c *ℤ dot f y ≡ a *ℤ dot left y +ℤ b *ℤ dot right y
 
 -- h is nonnegative: f is a part of h and what is left
-split_by_one : (m : ℕ) (S : List (List ℤ)) (f h : List ℤ) → length h ≡ m → IsAbove S h → nonzeros S h < nonzeros S f → Tilted m S f h → Split m S f
+split_by_one : (m : ℕ) (S : List (List ℤ)) (f h : List ℤ) → length h ≡ m → IsAbove S h → nonzeros S h < nonzeros S f → Tilted m S f h
+    → Split m S f
 split_by_one m S f h e above fewer t = record {
   left = t.vector;
   left_long = t.long;
@@ -192,7 +202,8 @@ split_by_one m S f h e above fewer t = record {
     sum x y z a b e = rw e (simp products_out (omega (arith, linear)))
 
 -- h has both signs
-split_by_two : (m : ℕ) (S : List (List ℤ)) (f h k : List ℤ) → ((y : List ℤ) → dot k y ≡ neg_ℤ (dot h y)) → Tilted m S f h → Tilted m S f k → Split m S f
+split_by_two : (m : ℕ) (S : List (List ℤ)) (f h k : List ℤ) → ((y : List ℤ) → dot k y ≡ neg_ℤ (dot h y)) → Tilted m S f h → Tilted m S f k
+    → Split m S f
 split_by_two m S f h k opposite t u = record {
   left = t.vector;
   left_long = t.long;
@@ -211,11 +222,13 @@ split_by_two m S f h k opposite t u = record {
   same = λ y. sum (dot f y) (dot h y) (dot k y) (dot t.vector y) (dot u.vector y) t.a t.b u.a u.b (opposite y) (t.same y) (u.same y);
 }
   where
-    sum : (x y y' z w a b c d : ℤ) → y' ≡ neg_ℤ y → z ≡ a *ℤ x +ℤ neg_ℤ b *ℤ y → w ≡ c *ℤ x +ℤ neg_ℤ d *ℤ y' → (d *ℤ a +ℤ b *ℤ c) *ℤ x ≡ d *ℤ z +ℤ b *ℤ w
+    sum : (x y y' z w a b c d : ℤ) → y' ≡ neg_ℤ y → z ≡ a *ℤ x +ℤ neg_ℤ b *ℤ y → w ≡ c *ℤ x +ℤ neg_ℤ d *ℤ y'
+        → (d *ℤ a +ℤ b *ℤ c) *ℤ x ≡ d *ℤ z +ℤ b *ℤ w
     sum x y y' z w a b c d p q r = rw (q, r, p) (simp products_out (omega (arith, linear)))
 
 -- f splits by each function that is 0 along f and somewhere that f is not, but not everywhere: by the signs that it has
-pub split : (m : ℕ) (S : List (List ℤ)) (f h : List ℤ) → length f ≡ m → length h ≡ m → IsAbove S f → VanishesAlong S f h → (s : List ℤ) → In s S
+pub split : (m : ℕ) (S : List (List ℤ)) (f h : List ℤ) → length f ≡ m → length h ≡ m → IsAbove S f → VanishesAlong S f h → (s : List ℤ)
+    → In s S
     → dot f s ≢ pos 0 → dot h s ≡ pos 0 → (p : List ℤ) → In p S → dot h p ≢ pos 0 → Split m S f
 split m S f h e e' above along s i n z p j n' = by (find_least S f h) (find_least S f k)
   where

@@ -1,4 +1,5 @@
--- The values of a linear function, a vector f, at the vectors of a list S: where they are nonnegative, where they are 0, and at how many they aren't.
+-- The values of a linear function, a vector f, at the vectors of a list S: where they are nonnegative, where they are 0, and at how many
+-- they aren't.
 use Rattle.std.proofs.Common.{◌≡◌, ◌≢◌, ℕ, zero, suc, ◌+◌, ◌<◌, ◌≤◌, List, [], ◌∷◌, length, ℤ, pos, negsuc, ◌+ℤ◌, ◌*ℤ◌, ◌≤ℤ◌, ◌⊎◌, inl, inr, refl, arith}
 use Rattle.lattice_theory.specs.Vector.{dot}
 use Rattle.lattice_theory.proofs.Integers.{products_out, linear, zero_or_not}
@@ -53,12 +54,22 @@ counted_le a b h = by (zero_or_not a)
 -- a function that is 0 along f is 0 at as many vectors, at least
 pub nonzeros_le : (S : List (List ℤ)) (f u : List ℤ) → VanishesAlong S f u → nonzeros S u ≤ nonzeros S f
 nonzeros_le [] f u h = omega arith
-nonzeros_le (v ∷ S) f u h = omega (arith, counted_le (dot f v) (dot u v) (h.at v here), nonzeros_le S f u (record { at = λ w i. h.at w (there i) }))
+nonzeros_le (v ∷ S) f u h = omega (
+  arith,
+  counted_le (dot f v) (dot u v) (h.at v here),
+  nonzeros_le S f u (record { at = λ w i. h.at w (there i) }),
+)
 
 -- and at more of them, where it is 0 at some vector at which f isn't
-pub nonzeros_lt : (S : List (List ℤ)) (f u : List ℤ) → VanishesAlong S f u → (s : List ℤ) → In s S → dot f s ≢ pos 0 → dot u s ≡ pos 0 → nonzeros S u < nonzeros S f
+pub nonzeros_lt : (S : List (List ℤ)) (f u : List ℤ) → VanishesAlong S f u → (s : List ℤ) → In s S → dot f s ≢ pos 0 → dot u s ≡ pos 0
+    → nonzeros S u < nonzeros S f
 nonzeros_lt [] f u h s i n e = elim i [ ]
-nonzeros_lt (v ∷ S) f u h s here n e = omega (arith, (counted_is (dot f s)).1 n, (counted_is (dot u s)).0 e, nonzeros_le S f u (record { at = λ w i. h.at w (there i) }))
+nonzeros_lt (v ∷ S) f u h s here n e = omega (
+  arith,
+  (counted_is (dot f s)).1 n,
+  (counted_is (dot u s)).0 e,
+  nonzeros_le S f u (record { at = λ w i. h.at w (there i) }),
+)
 nonzeros_lt (v ∷ S) f u h s (there i) n e = omega (
   arith,
   counted_le (dot f v) (dot u v) (h.at v here),

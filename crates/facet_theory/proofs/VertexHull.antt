@@ -31,7 +31,8 @@ some_vertex_lem n points vertices solid same = by (some_point n points solid)
 pub vertices_dimension : (n : ℕ) (points vertices : List (List ℤ)) → HaveDimension n points → AreVerticesInAnyOrder n points vertices
     → HaveDimension n vertices
 vertices_dimension n points vertices dims same =
-    all_from_each (each_from_in vertices (λ v i. each_in (each_from_all (λ q. length q ≡ n) points dims) (vertex_inside n points vertices same v i)))
+    all_from_each (each_from_in vertices (λ v i. each_in (each_from_all (λ q. length q ≡ n) points dims)
+    (vertex_inside n points vertices same v i)))
 
 -- the law on their size
 pub vertices_are_small_lem : VerticesAreSmall
@@ -39,7 +40,8 @@ vertices_are_small_lem n points vertices same = fewer_size n vertices points (ve
 
 module _ (n : ℕ) (points vertices : List (List ℤ)) (solid : AreSolid n points) (same : AreVerticesInAnyOrder n points vertices) where
   -- what is 0 on the vertices is nonnegative on the points
-  nonnegative_where_zero : (f : Affine) → length f.normal ≡ n → ((v : List ℤ) → In v vertices → value f v ≡ pos 0) → (p : List ℤ) → In p points
+  nonnegative_where_zero : (f : Affine) → length f.normal ≡ n → ((v : List ℤ) → In v vertices → value f v ≡ pos 0) → (p : List ℤ)
+      → In p points
       → pos 0 ≤ℤ value f p
   nonnegative_where_zero f l zeros =
       nonnegative_from_vertices n points vertices solid same f l (nonnegative_from vertices f (λ v i. at_least (value f v) (zeros v i)))

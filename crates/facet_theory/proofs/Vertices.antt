@@ -35,12 +35,14 @@ total_zero n points (f ∷ fs) (more facet facets) v p i on z = by
     (terms_zero (value_over f v (pos 1)) (total_over fs v (pos 1)) (facet_at n points i f facet)
     (total_nonnegative fs v (pos 1) (each_weaker (facet_at n points i) facets)) z) (λ e. total_zero n points fs facets v p i on e)
   where
-    by : (value_over f v (pos 1) ≡ pos 0) × (total_over fs v (pos 1) ≡ pos 0) → (total_over fs v (pos 1) ≡ pos 0 → total_over fs p (pos 1) ≡ pos 0)
+    by : (value_over f v (pos 1) ≡ pos 0) × (total_over fs v (pos 1) ≡ pos 0)
+        → (total_over fs v (pos 1) ≡ pos 0 → total_over fs p (pos 1) ≡ pos 0)
         → total_over (f ∷ fs) p (pos 1) ≡ pos 0
     by (e, e') rest = zero_sum (value_at_one f p ∙ on f facet (sym (value_at_one f v) ∙ e)) (rest e')
 
 -- so a nonnegative function that is 0 at v is 0 at each point on the facets of v
-pub zero_on_facets : (n : ℕ) (points : List (List ℤ)) → AreSolid n points → (v p : List ℤ) → In v points → IsOnFacetsOf n points v p → (f : Affine)
+pub zero_on_facets : (n : ℕ) (points : List (List ℤ)) → AreSolid n points → (v p : List ℤ) → In v points → IsOnFacetsOf n points v p
+    → (f : Affine)
     → length f.normal ≡ n → IsNonnegative points f → value f v ≡ pos 0 → value f p ≡ pos 0
 zero_on_facets n points solid v p i on f l h z = by (facets_generate_lem n points solid f l h)
   where
@@ -75,7 +77,8 @@ vertex_alone n points solid v vertex p i on n' = vertex.outside (λ f l h. by f 
     other : (f : Affine) → IsNonnegative (others points v) f → (q : List ℤ) → In q points → q ≢ v → pos 0 ≤ℤ value f q
     other f h q j m = nonnegative_at (others points v) f h (to_others points v q j m)
 
-    at : (f : Affine) → IsNonnegative (others points v) f → value f v <ℤ pos 0 → (q : List ℤ) → In q points → (q ≡ v) ⊎ (q ≢ v) → pos 0 ≤ℤ value (less f) q
+    at : (f : Affine) → IsNonnegative (others points v) f → value f v <ℤ pos 0 → (q : List ℤ) → In q points → (q ≡ v) ⊎ (q ≢ v)
+        → pos 0 ≤ℤ value (less f) q
     at f h c q j (inl e) = zero_least (value (less f) q) (ap (value (less f)) e ∙ value-lowered_self f v)
     at f h c q j (inr m) = nonnegative_same (sym (value-lowered f (value f v) q)) (above (value f v) (value f q) c (other f h q j m))
 
@@ -83,7 +86,8 @@ vertex_alone n points solid v vertex p i on n' = vertex.outside (λ f l h. by f 
     at_p f l h c = zero_on_facets n points solid v p inside on (less f) (length-lowered n f (value f v) l)
         (nonnegative_from points (less f) (λ q j. at f h c q j (same_or_not q v))) (value-lowered_self f v)
 
-    by : (f : Affine) → length f.normal ≡ n → IsNonnegative (others points v) f → (value f v <ℤ pos 0) ⊎ (pos 0 ≤ℤ value f v) → pos 0 ≤ℤ value f v
+    by : (f : Affine) → length f.normal ≡ n → IsNonnegative (others points v) f → (value f v <ℤ pos 0) ⊎ (pos 0 ≤ℤ value f v)
+        → pos 0 ≤ℤ value f v
     by f l h (inr k) = k
     by f l h (inl c) = absurd (clash (value f v) (value f p) c (sym (value-lowered f (value f v) p) ∙ at_p f l h c) (other f h p i n'))
 
@@ -115,8 +119,15 @@ no_tight n points v = record {
     at_least a e = omega (arith, linear)
 
 -- a facet that isn't 0 at v adds nothing
-skip_tight : (n : ℕ) (points : List (List ℤ)) (f : Affine) (fs : List Affine) (v : List ℤ) → value f v ≢ pos 0 → Tight n points fs v → Tight n points (f ∷ fs) v
-skip_tight n points f fs v n' t = record { function = t.function; dimension = t.dimension; zero_there = t.zero_there; nonnegative = t.nonnegative; tight = tight }
+skip_tight : (n : ℕ) (points : List (List ℤ)) (f : Affine) (fs : List Affine) (v : List ℤ) → value f v ≢ pos 0 → Tight n points fs v
+    → Tight n points (f ∷ fs) v
+skip_tight n points f fs v n' t = record {
+  function = t.function;
+  dimension = t.dimension;
+  zero_there = t.zero_there;
+  nonnegative = t.nonnegative;
+  tight = tight;
+}
   where
     tight : (q : List ℤ) → In q points → value t.function q ≡ pos 0 → (g : Affine) → In g (f ∷ fs) → value g v ≡ pos 0 → value g q ≡ pos 0
     tight q i z g here e = absurd (n' e)
@@ -129,7 +140,8 @@ add_tight n points f fs v facet e t = record {
   function = g;
   dimension = length-mixed n (pos 1) f (pos 1) t.function facet.dimension t.dimension;
   zero_there = values v ∙ zero_sum e t.zero_there;
-  nonnegative = λ q i. nonnegative_same (sym (values q)) (nonnegative_sum (nonnegative_at points f facet.nonnegative i) (t.nonnegative q i));
+  nonnegative = λ q i. nonnegative_same (sym (values q)) (nonnegative_sum (nonnegative_at points f facet.nonnegative i)
+      (t.nonnegative q i));
   tight = tight;
 }
   where
@@ -143,7 +155,8 @@ add_tight n points f fs v facet e t = record {
     values q = value-mixed (pos 1) f (pos 1) t.function q ∙ plain (value f q) (value t.function q)
 
     parts : (q : List ℤ) → In q points → value g q ≡ pos 0 → (value f q ≡ pos 0) × (value t.function q ≡ pos 0)
-    parts q i z = terms_zero (value f q) (value t.function q) (nonnegative_at points f facet.nonnegative i) (t.nonnegative q i) (sym (values q) ∙ z)
+    parts q i z = terms_zero (value f q) (value t.function q) (nonnegative_at points f facet.nonnegative i) (t.nonnegative q i)
+        (sym (values q) ∙ z)
 
     tight : (q : List ℤ) → In q points → value g q ≡ pos 0 → (h : Affine) → In h (f ∷ fs) → value h v ≡ pos 0 → value h q ≡ pos 0
     tight q i z h here e' = (parts q i z).0
@@ -168,7 +181,8 @@ vertex_from_alone n points solid v i alone = by (all_facets n points solid)
       where
         at : Tight n points a.functions v → IsVertex n points v
         at t = vertex_from_function n points v i t.function t.dimension t.zero_there
-            (λ q j n'. positive_from (value t.function q) (t.nonnegative q j) (λ z. n' (alone q j (λ f facet e. t.tight q j z f (a.all f facet) e))))
+            (λ q j n'. positive_from (value t.function q) (t.nonnegative q j)
+            (λ z. n' (alone q j (λ f facet e. t.tight q j z f (a.all f facet) e))))
 
 -- the law on vertices
 pub vertices_by_facets_lem : VerticesByFacets

@@ -70,7 +70,8 @@ FacetsOfVertices = (n : ℕ) (points vertices : List (List ℤ)) → AreSolid n 
 
 -- they aren't flat, and have n coordinates
 abbrev pub VerticesAreSolid : Type 0
-VerticesAreSolid = (n : ℕ) (points vertices : List (List ℤ)) → AreSolid n points → AreVerticesInAnyOrder n points vertices → AreSolid n vertices
+VerticesAreSolid = (n : ℕ) (points vertices : List (List ℤ)) → AreSolid n points → AreVerticesInAnyOrder n points vertices
+    → AreSolid n vertices
 
 -- there is one
 abbrev pub SomeVertex : Type 0
@@ -97,7 +98,8 @@ DilatePointsOfVertices = (n : ℕ) (points vertices : List (List ℤ)) → AreSo
 
 -- the lattice points of the hull are those of the first dilate
 abbrev pub FirstDilateIsHull : Type 0
-FirstDilateIsHull = (n : ℕ) (points : List (List ℤ)) → AreSolid n points → (x : List ℤ) → IsDilatePoint n points 1 x ↔ IsLatticePoint n points x
+FirstDilateIsHull = (n : ℕ) (points : List (List ℤ)) → AreSolid n points → (x : List ℤ)
+    → IsDilatePoint n points 1 x ↔ IsLatticePoint n points x
 
 -- the j-th dilate lies in the j-th dilate of each box that holds the points
 abbrev pub DilateInBox : Type 0

@@ -36,7 +36,8 @@ largest_within n points p l i = largest_of_all p (size n points) entry_within
     entry_within k x h = rw (get_or_default p k x (pos 0) h) (within k h)
 
 -- so points with a large coordinate are large
-pub large_size_from_coordinate : (n : ℕ) (points : List (List ℤ)) → HaveDimension n points → HaveLargeCoordinate points → size_limit_of n < size n points
+pub large_size_from_coordinate : (n : ℕ) (points : List (List ℤ)) → HaveDimension n points → HaveLargeCoordinate points
+    → size_limit_of n < size n points
 large_size_from_coordinate n points dims large =
     let member = in_from_contains points large.member in
     let l = each_in (each_from_all (λ p. length p ≡ n) points dims) member in

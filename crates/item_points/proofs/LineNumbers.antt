@@ -37,7 +37,8 @@ pub numbers_within : (systems : List Weighted) → numbers_refusal systems ≡ N
 numbers_within systems e =
     let later = degrees_refusal systems (first_large_degree systems) in
     let many = Limit Weights (columns_of systems) in
-    let p = passed (nat_lt 6 (length systems)) (Limit Systems (length systems)) (if nat_lt 12 (columns_of systems) then Some many else later) e in
+    let p = passed (nat_lt 6 (length systems)) (Limit Systems (length systems)) (if nat_lt 12 (columns_of systems) then Some many
+    else later) e in
     let q = passed (nat_lt 12 (columns_of systems)) many later p.1 in
     let d = degrees_passed systems (first_large_degree systems) q.1 in
     let product = d.1 in
@@ -59,7 +60,8 @@ degree_within_at (s ∷ systems) (suc i) system e within =
 
 -- the product of the degrees from a place on
 pub product_behind : (systems : List WeightSystem) (i product : ℕ) (system : WeightSystem) → i < length systems
-    → product * degree_product (weighted_all (drop i systems)) ≡ product * (get_or systems i system).degree * degree_product (weighted_all (drop (i + 1) systems))
+    → product * degree_product (weighted_all (drop i systems)) ≡ product * (get_or systems i system).degree * degree_product
+    (weighted_all (drop (i + 1) systems))
 product_behind systems i product system within =
     ap (λ (n : ℕ). product * n) (at_drop_more (λ (ss : List WeightSystem). degree_product (weighted_all ss)) systems i system within)
     ∙ sym (mul_assoc product (get_or systems i system).degree (degree_product (weighted_all (drop (i + 1) systems))))

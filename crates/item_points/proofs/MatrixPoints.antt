@@ -11,10 +11,12 @@ use Rattle.lattice_core.specs.PointLists.{ArePoints}
 use Rattle.lattice_core.proofs.Dimension.{dimension_is}
 
 -- each point has as many coordinates
-pub matrix_dimension : (lines columns : ℕ) (entries : List ℤ) → HaveDimension (coordinate_count lines columns) (points_of lines columns entries)
+pub matrix_dimension : (lines columns : ℕ) (entries : List ℤ)
+    → HaveDimension (coordinate_count lines columns) (points_of lines columns entries)
 matrix_dimension lines columns entries =
     all_from_each (each_map (λ (p : List ℤ). length p ≡ coordinate_count lines columns) (point_at lines columns entries)
-    (each_from_in (range_with_len 0 (point_count lines columns)) (λ k i. length-map-range_with_len (coordinate_of lines columns entries k) 0 (coordinate_count lines columns))))
+    (each_from_in (range_with_len 0 (point_count lines columns)) (λ k i. length-map-range_with_len (coordinate_of lines columns entries k) 0
+    (coordinate_count lines columns))))
 
 -- there is a point
 pub some_point : (lines columns : ℕ) (entries : List ℤ) → 1 ≤ lines → 0 < length (points_of lines columns entries)
@@ -23,9 +25,11 @@ some_point lines columns entries some =
     omega arith
 
 -- so this is the points' dimension
-pub matrix_first : (lines columns : ℕ) (entries : List ℤ) → 1 ≤ lines → dimension_of (points_of lines columns entries) ≡ coordinate_count lines columns
+pub matrix_first : (lines columns : ℕ) (entries : List ℤ) → 1 ≤ lines
+    → dimension_of (points_of lines columns entries) ≡ coordinate_count lines columns
 matrix_first lines columns entries some =
-    dimension_is (coordinate_count lines columns) (points_of lines columns entries) (some_point lines columns entries some) (matrix_dimension lines columns entries)
+    dimension_is (coordinate_count lines columns) (points_of lines columns entries) (some_point lines columns entries some)
+    (matrix_dimension lines columns entries)
 
 -- a matrix with coordinates has lines
 some_line : (lines columns : ℕ) → 1 ≤ min lines columns → 1 ≤ lines

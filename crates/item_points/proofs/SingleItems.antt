@@ -29,26 +29,33 @@ other_or_within lines columns told a least most =
     let e = a.told_is in
     ⊎_elim (λ (h : told ≡ 0). omega (arith, e, h, least)) (λ (h : 6 < told). omega (arith, e, h, most)) a.outside
 
-matrix_refusal_or_points : (lines columns : ℕ) (entries : List ℤ) (cause : Refusal) (points : List (List ℤ)) → IsMatrixRefusal lines columns cause
+matrix_refusal_or_points : (lines columns : ℕ) (entries : List ℤ) (cause : Refusal) (points : List (List ℤ))
+    → IsMatrixRefusal lines columns cause
     → AreMatrixPoints lines columns entries points → ⊥
-matrix_refusal_or_points lines columns entries _ points (other_dimension {told = told} a) h = other_or_within lines columns told a h.least h.most
+matrix_refusal_or_points lines columns entries _ points (other_dimension {told = told} a) h =
+    other_or_within lines columns told a h.least h.most
 matrix_refusal_or_points lines columns entries _ points (many_numbers {told = told} a) h = omega (arith, a.told_is, a.many, h.few)
 
 one_matrix_refusal : (lines columns : ℕ) (cause other : Refusal) → IsMatrixRefusal lines columns cause → IsMatrixRefusal lines columns other
     → cause ≡ other
 one_matrix_refusal lines columns _ _ (other_dimension a) (other_dimension b) = ap (Limit Dim) (a.told_is ∙ sym b.told_is)
-one_matrix_refusal lines columns _ _ (other_dimension {told = told} a) (many_numbers b) = absurd (other_or_within lines columns told a b.least b.most)
-one_matrix_refusal lines columns _ _ (many_numbers a) (other_dimension {told = told} b) = absurd (other_or_within lines columns told b a.least a.most)
+one_matrix_refusal lines columns _ _ (other_dimension {told = told} a) (many_numbers b) =
+    absurd (other_or_within lines columns told a b.least b.most)
+one_matrix_refusal lines columns _ _ (many_numbers a) (other_dimension {told = told} b) =
+    absurd (other_or_within lines columns told b a.least a.most)
 one_matrix_refusal lines columns _ _ (many_numbers a) (many_numbers b) = ap (Limit Input) (a.told_is ∙ sym b.told_is)
 
 -- all items
-same_points : (item : Listed) (points others : List (List ℤ)) → HasPointsOfAnySize item points → HasPointsOfAnySize item others → points ≡ others
+same_points : (item : Listed) (points others : List (List ℤ)) → HasPointsOfAnySize item points → HasPointsOfAnySize item others
+    → points ≡ others
 same_points (ListedWeights systems) points others a b = same_weight_points systems points others a b
 same_points (ListedPoints lines columns entries) points others a b = a.are_points ∙ sym b.are_points
 
-input_refusal_or_points : (item : Listed) (cause : Refusal) (points : List (List ℤ)) → IsInputRefusal item cause → HasPointsOfAnySize item points → ⊥
+input_refusal_or_points : (item : Listed) (cause : Refusal) (points : List (List ℤ)) → IsInputRefusal item cause
+    → HasPointsOfAnySize item points → ⊥
 input_refusal_or_points (ListedWeights systems) cause points a h = weight_refusal_or_points systems cause points a h
-input_refusal_or_points (ListedPoints lines columns entries) cause points a h = matrix_refusal_or_points lines columns entries cause points a h
+input_refusal_or_points (ListedPoints lines columns entries) cause points a h =
+    matrix_refusal_or_points lines columns entries cause points a h
 
 one_input_refusal : (item : Listed) (cause other : Refusal) → IsInputRefusal item cause → IsInputRefusal item other → cause ≡ other
 one_input_refusal (ListedWeights systems) cause other a b = one_weight_refusal systems cause other a b
@@ -66,7 +73,8 @@ large_or_small_coordinates points a h =
     let small = All-contains (λ (p : List ℤ). largest p ≤ MOST_COORDINATE) points a.point h a.member in
     omega (arith, small, a.large)
 
-same_told_size : (item : Listed) (points : List (List ℤ)) (told other : ℕ) → IsToldSize item points told → IsToldSize item points other → told ≡ other
+same_told_size : (item : Listed) (points : List (List ℤ)) (told other : ℕ) → IsToldSize item points told → IsToldSize item points other
+    → told ≡ other
 same_told_size (ListedWeights systems) points told other (inl a) (inl b) = a.1 ∙ sym b.1
 same_told_size (ListedWeights systems) points told other (inl a) (inr b) = absurd (large_or_small_coordinates points a.0 b.0)
 same_told_size (ListedWeights systems) points told other (inr a) (inl b) = absurd (large_or_small_coordinates points b.0 a.0)
@@ -90,7 +98,8 @@ pub one_points_refusal : OnePointsRefusal
 one_points_refusal item cause other (input a) (input b) = one_input_refusal item cause other a b
 one_points_refusal item cause _ (input a) (large_size b) = absurd (input_refusal_or_points item cause b.points a b.are_points)
 one_points_refusal item _ other (large_size a) (input b) = absurd (input_refusal_or_points item other a.points b a.are_points)
-one_points_refusal item _ _ (large_size {told = told} a) (large_size {told = other} b) = ap (Limit Size) (same_large_size item told other a b)
+one_points_refusal item _ _ (large_size {told = told} a) (large_size {told = other} b) =
+    ap (Limit Size) (same_large_size item told other a b)
 
 -- what stops the work before the size
 pub input_stops : (item : Listed) (fault : Fault) → Stops (IsInputRefusal item) fault → Stops (IsPointsRefusal item) fault

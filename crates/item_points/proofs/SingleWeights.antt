@@ -20,7 +20,8 @@ use Rattle.item_points.specs.WeightLines.{IsWeightRefusal, number, entry, other_
 
 -- coordinates in a basis are determined
 same_coordinates : (systems : List Weighted) (vectors members points others : List (List ℤ)) → IsIntegerBasis systems vectors
-    → HaveCoordinates (columns_of systems) vectors members points → HaveCoordinates (columns_of systems) vectors members others → points ≡ others
+    → HaveCoordinates (columns_of systems) vectors members points → HaveCoordinates (columns_of systems) vectors members others
+    → points ≡ others
 same_coordinates systems vectors [] [] [] b h k = refl
 same_coordinates systems vectors [] [] (q ∷ others) b h k = absurd k
 same_coordinates systems vectors [] (p ∷ points) others b h k = absurd h
@@ -40,7 +41,8 @@ moved_coordinates n vectors others members further points e f h =
     subst (λ (xs : List (List ℤ)). HaveCoordinates n xs members points) (sym e) same_members
 
 -- where there is a vector there is a point
-pub has_point : (n : ℕ) (vectors members points : List (List ℤ)) → 1 ≤ length members → HaveCoordinates n vectors members points → 0 < length points
+pub has_point : (n : ℕ) (vectors members points : List (List ℤ)) → 1 ≤ length members → HaveCoordinates n vectors members points
+    → 0 < length points
 has_point n vectors [] points some h = absurd (omega (arith, some))
 has_point n vectors (a ∷ members) [] some h = absurd h
 has_point n vectors (a ∷ members) (p ∷ points) some h = omega arith
@@ -50,12 +52,14 @@ same_monomials : (systems : List Weighted) (xs ys : List (List ℤ)) → AreMono
 same_monomials systems xs ys h k = lists_unique LexLess lex_asymmetric (IsMonomial systems) xs ys h k
 
 -- frames within the limit are the same
-same_vectors : (systems : List Weighted) (vectors others : List (List ℤ)) → IsFrameWithinLimit systems vectors → IsFrameWithinLimit systems others
+same_vectors : (systems : List Weighted) (vectors others : List (List ℤ)) → IsFrameWithinLimit systems vectors
+    → IsFrameWithinLimit systems others
     → vectors ≡ others
 same_vectors systems vectors others f g = (frame_is_unique systems vectors f.made others g.made f.recursion g.recursion).0
 
 -- the points of a weight line are determined
-pub same_weight_points : (systems : List Weighted) (points others : List (List ℤ)) → AreWeightPoints systems points → AreWeightPoints systems others
+pub same_weight_points : (systems : List Weighted) (points others : List (List ℤ)) → AreWeightPoints systems points
+    → AreWeightPoints systems others
     → points ≡ others
 same_weight_points systems points others a b =
     let vectors = same_vectors systems a.frame.vectors b.frame.vectors a.frame.is_frame b.frame.is_frame in
@@ -90,9 +94,11 @@ same_first_above (z ∷ before) [] behind others x y e w v a b =
     absurd (above_and_within y z (sym (ap first_vector e)) b (All-head (λ (u : List ℤ). largest u ≤ MOST_FRAME_ENTRY) z before w))
 same_first_above (z ∷ before) (u ∷ further) behind others x y e w v a b =
     same_first_above before further behind others x y (ap behind_first e)
-    (All-tail (λ (u : List ℤ). largest u ≤ MOST_FRAME_ENTRY) z before w) (All-tail (λ (u : List ℤ). largest u ≤ MOST_FRAME_ENTRY) u further v) a b
+    (All-tail (λ (u : List ℤ). largest u ≤ MOST_FRAME_ENTRY) z before w)
+    (All-tail (λ (u : List ℤ). largest u ≤ MOST_FRAME_ENTRY) u further v) a b
 
-told_above : (vectors others : List (List ℤ)) (told other : ℕ) → vectors ≡ others → IsFirstAboveLimit vectors told → IsFirstAboveLimit others other
+told_above : (vectors others : List (List ℤ)) (told other : ℕ) → vectors ≡ others → IsFirstAboveLimit vectors told
+    → IsFirstAboveLimit others other
     → told ≡ other
 told_above vectors others told other e a b =
     let above_a = subst (λ (k : ℕ). MOST_FRAME_ENTRY < k) a.value a.above in
@@ -101,9 +107,11 @@ told_above vectors others told other e a b =
     let same = same_first_above a.before b.before a.behind b.behind a.vector b.vector split a.within b.within above_a above_b in
     a.value ∙ (ap largest same ∙ sym b.value)
 
-same_exceeding : (systems : List Weighted) (told other : ℕ) → ExceedsEntryLimit systems told → ExceedsEntryLimit systems other → told ≡ other
+same_exceeding : (systems : List Weighted) (told other : ℕ) → ExceedsEntryLimit systems told → ExceedsEntryLimit systems other
+    → told ≡ other
 same_exceeding systems told other a b =
-    told_above a.made b.made told other (frame_is_unique systems a.vectors a.made b.vectors b.made a.recursion b.recursion).1 a.first b.first
+    told_above a.made b.made told other (frame_is_unique systems a.vectors a.made b.vectors b.made a.recursion b.recursion).1 a.first
+    b.first
 
 same_other_dimension : (systems : List Weighted) (n other : ℕ) → HasOtherDimension systems n → HasOtherDimension systems other → n ≡ other
 same_other_dimension systems n other a b = a.count ∙ (ap length (same_vectors systems a.vectors b.vectors a.frame b.frame) ∙ sym b.count)
@@ -136,11 +144,14 @@ one_weight_refusal systems _ _ (number {cause = cause} a) (entry none b) = absur
 one_weight_refusal systems _ _ (number {cause = cause} a) (other_dimension none b) = absurd (not_numbers systems cause a none)
 one_weight_refusal systems _ _ (number {cause = cause} a) (many_monomials b) = absurd (not_numbers systems cause a b.frame.numbers)
 one_weight_refusal systems _ _ (entry none a) (number {cause = cause} b) = absurd (not_numbers systems cause b none)
-one_weight_refusal systems _ _ (entry {told = told} none a) (entry {told = other} also b) = ap (Limit Frame) (same_exceeding systems told other a b)
-one_weight_refusal systems _ _ (entry {told = told} none a) (other_dimension also b) = absurd (not_exceeding systems b.vectors told b.frame a)
+one_weight_refusal systems _ _ (entry {told = told} none a) (entry {told = other} also b) =
+    ap (Limit Frame) (same_exceeding systems told other a b)
+one_weight_refusal systems _ _ (entry {told = told} none a) (other_dimension also b) =
+    absurd (not_exceeding systems b.vectors told b.frame a)
 one_weight_refusal systems _ _ (entry {told = told} none a) (many_monomials b) = absurd (exceeding_or_frame systems told a b.frame)
 one_weight_refusal systems _ _ (other_dimension none a) (number {cause = cause} b) = absurd (not_numbers systems cause b none)
-one_weight_refusal systems _ _ (other_dimension none a) (entry {told = told} also b) = absurd (not_exceeding systems a.vectors told a.frame b)
+one_weight_refusal systems _ _ (other_dimension none a) (entry {told = told} also b) =
+    absurd (not_exceeding systems a.vectors told a.frame b)
 one_weight_refusal systems _ _ (other_dimension {n = n} none a) (other_dimension {n = m} also b) =
     ap (Limit Dim) (same_other_dimension systems n m a b)
 one_weight_refusal systems _ _ (other_dimension {n = n} none a) (many_monomials b) = absurd (other_or_frame systems n a b.frame)

@@ -30,6 +30,7 @@ weight_are_points systems points a =
     let count = have_count (columns_of systems) vectors a.members points a.coordinates in
     let members = a.some in
     let some : 0 < length points = omega arith in
-    let dims : HaveDimension (length vectors) points = all_from_each (have_dimension (columns_of systems) vectors a.members points a.coordinates) in
+    let dims : HaveDimension (length vectors) points =
+    all_from_each (have_dimension (columns_of systems) vectors a.members points a.coordinates) in
     let first = dimension_is (length vectors) points some dims in
     (record { some = some; one_dimension = rw first dims }, first)

@@ -50,10 +50,12 @@ shifted_degree [] [] l = refl
 shifted_degree [] (e ∷ a) l = absurd (omega arith)
 shifted_degree (w ∷ weights) [] l = absurd (omega arith)
 shifted_degree (w ∷ weights) (e ∷ a) l =
-    shifted_sum (pos w) (pos (total weights)) e (dot (map pos weights) (monomial_point a)) (dot (map pos weights) a) (shifted_degree weights a (omega arith))
+    shifted_sum (pos w) (pos (total weights)) e (dot (map pos weights) (monomial_point a)) (dot (map pos weights) a)
+    (shifted_degree weights a (omega arith))
 
 -- the point of an exponent vector is in the lattice
-pub point_inside : (systems : List Weighted) (a : List ℤ) → AreWellFormed systems → IsMonomial systems a → IsInLattice systems (monomial_point a)
+pub point_inside : (systems : List Weighted) (a : List ℤ) → AreWellFormed systems → IsMonomial systems a
+    → IsInLattice systems (monomial_point a)
 point_inside systems a formed m = record {
   columns = length-map a (λ (e : ℤ). e -ℤ pos 1) ∙ m.columns;
   vanish = all_from_each {P = λ s. weighted_degree s (monomial_point a) ≡ pos 0} (each_from_in systems vanishes);
@@ -65,7 +67,8 @@ point_inside systems a formed m = record {
     vanishes : (s : Weighted) → In s systems → weighted_degree s (monomial_point a) ≡ pos 0
     vanishes s i =
         let summed : IsSummed (columns_of systems) s = each_in (each_from_all (IsSummed (columns_of systems)) systems formed.summed) i in
-        let degree : weighted_degree s a ≡ pos s.degree = each_in (each_from_all (λ t. weighted_degree t a ≡ pos t.degree) systems m.degrees) i in
+        let degree : weighted_degree s a ≡ pos s.degree =
+        each_in (each_from_all (λ t. weighted_degree t a ≡ pos t.degree) systems m.degrees) i in
         nothing (weighted_degree s (monomial_point a)) (weighted_degree s a) s.degree (total s.weights)
         (shifted_degree s.weights a (summed.columns ∙ sym m.columns)) degree summed.sum
 
@@ -92,7 +95,8 @@ ones_monomial : (systems : List Weighted) → AreWellFormed systems → IsMonomi
 ones_monomial systems formed = record {
   columns = length-replicate (columns_of systems) (pos 1);
   nonnegative = all_from_each {P = λ e. pos 0 ≤ℤ e} (ones_nonnegative (columns_of systems));
-  degrees = all_from_each {P = λ s. weighted_degree s (replicate (columns_of systems) (pos 1)) ≡ pos s.degree} (each_from_in systems degree);
+  degrees = all_from_each {P = λ s. weighted_degree s (replicate (columns_of systems) (pos 1)) ≡ pos s.degree}
+      (each_from_in systems degree);
 }
   where
     degree : (s : Weighted) → In s systems → weighted_degree s (replicate (columns_of systems) (pos 1)) ≡ pos s.degree
@@ -105,7 +109,8 @@ filled : {X : Type 0} {x : X} {xs : List X} → In x xs → 0 < length xs
 filled here = omega arith
 filled (there i) = omega arith
 
-pub some_monomial : (systems : List Weighted) (members : List (List ℤ)) → AreWellFormed systems → AreMonomials systems members → 0 < length members
+pub some_monomial : (systems : List Weighted) (members : List (List ℤ)) → AreWellFormed systems → AreMonomials systems members
+    → 0 < length members
 some_monomial systems members formed are =
     filled (in_from_contains members ((are.members (replicate (columns_of systems) (pos 1))).1 (ones_monomial systems formed)))
 
@@ -168,7 +173,13 @@ pub record IsUnderWay (systems : List Weighted) (vectors : List (List ℤ)) (cou
 
 pub under_way : (systems : List Weighted) (vectors : List (List ℤ)) → AreWellFormed systems → AreWithinLimits systems
     → IsUnderWay systems vectors 0 false []
-under_way systems vectors formed limits = record { members = []; first = none_are_first systems formed limits; few = omega arith; seen = tt; small = empty }
+under_way systems vectors formed limits = record {
+  members = [];
+  first = none_are_first systems formed limits;
+  few = omega arith;
+  seen = tt;
+  small = empty;
+}
 
 -- what is given is an exponent vector
 given_monomial : (systems : List Weighted) (place : ℕ) (a : List ℤ) → IsMonomialAt systems place a → IsMonomial systems a
@@ -199,8 +210,13 @@ next_given old new systems count a e f next =
 -- a point more
 seen_more : (large : Bool) (systems : List Weighted) (vectors members points : List (List ℤ)) (a p : List ℤ)
     → AreSeen large systems vectors members points
-    → AreCoordinates (columns_of systems) vectors (monomial_point a) p → AreSeen large systems vectors (members ++ a ∷ []) (points ++ p ∷ [])
-seen_more true systems vectors members points a p seen k = record { exponents = seen.exponents; member = in_append_left (a ∷ []) seen.member; large = seen.large }
+    → AreCoordinates (columns_of systems) vectors (monomial_point a) p
+    → AreSeen large systems vectors (members ++ a ∷ []) (points ++ p ∷ [])
+seen_more true systems vectors members points a p seen k = record {
+  exponents = seen.exponents;
+  member = in_append_left (a ∷ []) seen.member;
+  large = seen.large;
+}
 seen_more false systems vectors members points a p seen k = have_push (columns_of systems) vectors members points a p seen k
 
 pub point_more : (systems : List Weighted) (vectors : List (List ℤ)) (count : ℕ) (large : Bool) (points : List (List ℤ)) (a p : List ℤ)
@@ -231,11 +247,18 @@ large_more systems vectors count large points a way few m h = record {
 -- the frame of the line
 abbrev has_frame : (systems : List Weighted) (vectors : List (List ℤ)) → numbers_refusal systems ≡ None
     → IsHandedOut (record { systems = systems; vectors = vectors }) → HasFrame systems
-has_frame systems vectors numbers frame = record { numbers = numbers; vectors = vectors; is_frame = frame.is_frame; least = frame.least; most = frame.most }
+has_frame systems vectors numbers frame = record {
+  numbers = numbers;
+  vectors = vectors;
+  is_frame = frame.is_frame;
+  least = frame.least;
+  most = frame.most;
+}
 
 -- there are more exponent vectors than a line may have
 pub many_monomials_met : (systems : List Weighted) (vectors : List (List ℤ)) (a : List ℤ) → numbers_refusal systems ≡ None
-    → IsHandedOut (record { systems = systems; vectors = vectors }) → IsMonomialAt systems 16_384 a → IsPointsRefusal (ListedWeights systems) (Limit Monomials 16_385)
+    → IsHandedOut (record { systems = systems; vectors = vectors }) → IsMonomialAt systems 16_384 a
+    → IsPointsRefusal (ListedWeights systems) (Limit Monomials 16_385)
 many_monomials_met systems vectors a numbers frame m = input (many_monomials (record {
   frame = has_frame systems vectors numbers frame;
   members = m.before ++ a ∷ m.after;
@@ -246,7 +269,8 @@ many_monomials_met systems vectors a numbers frame m = input (many_monomials (re
 
 -- all points
 framed_points : (systems : List Weighted) (vectors members points : List (List ℤ)) (count : ℕ) → numbers_refusal systems ≡ None
-    → IsHandedOut (record { systems = systems; vectors = vectors }) → AreFirst systems count members → count ≤ 16_384 → HasMonomials systems count
+    → IsHandedOut (record { systems = systems; vectors = vectors }) → AreFirst systems count members → count ≤ 16_384
+    → HasMonomials systems count
     → HaveCoordinates (columns_of systems) vectors members points → AreWeightPoints systems points
 framed_points systems vectors members points count numbers frame first few all h = record {
   frame = has_frame systems vectors numbers frame;
@@ -259,7 +283,8 @@ framed_points systems vectors members points count numbers frame first few all h
 
 -- the walk has ended, and no coordinate was large
 pub walk_points : (systems : List Weighted) (vectors points : List (List ℤ)) (count : ℕ) → numbers_refusal systems ≡ None
-    → IsHandedOut (record { systems = systems; vectors = vectors }) → IsUnderWay systems vectors count false points → HasMonomials systems count
+    → IsHandedOut (record { systems = systems; vectors = vectors }) → IsUnderWay systems vectors count false points
+    → HasMonomials systems count
     → AreSmallPoints systems points
 walk_points systems vectors points count numbers frame way all = record {
   are_points = framed_points systems vectors way.members points count numbers frame way.first way.few all way.seen;
@@ -268,7 +293,8 @@ walk_points systems vectors points count numbers frame way all = record {
 
 -- the coordinates of a vector with a large coordinate
 large_coordinates : (systems : List Weighted) (vectors : List (List ℤ)) (x p : List ℤ) → IsFrameWithinLimit systems vectors
-    → HasLargeCoordinate (record { systems = systems; vectors = vectors }) x → AreCoordinates (columns_of systems) vectors x p → MOST_COORDINATE < largest p
+    → HasLargeCoordinate (record { systems = systems; vectors = vectors }) x → AreCoordinates (columns_of systems) vectors x p
+    → MOST_COORDINATE < largest p
 large_coordinates systems vectors x p frame large k =
     let one = frame_coordinates systems vectors x frame large.are_coordinates.inside in
     let same = one.only large.coordinates large.are_coordinates.are_coordinates ∙ sym (one.only p k) in
@@ -276,7 +302,8 @@ large_coordinates systems vectors x p frame large k =
 
 -- the walk has ended, and a coordinate was large
 pub large_point_met : (systems : List Weighted) (vectors points : List (List ℤ)) (count : ℕ) → numbers_refusal systems ≡ None
-    → IsHandedOut (record { systems = systems; vectors = vectors }) → IsUnderWay systems vectors count true points → HasMonomials systems count
+    → IsHandedOut (record { systems = systems; vectors = vectors }) → IsUnderWay systems vectors count true points
+    → HasMonomials systems count
     → IsPointsRefusal (ListedWeights systems) (Limit Size 1_073_741_825)
 large_point_met systems vectors points count numbers frame way all =
     let seen = way.seen in
@@ -294,12 +321,14 @@ large_point_met systems vectors points count numbers frame way all =
     large_size (record {
       points = made.points;
       are_points = points_are;
-      large = large_size_from_coordinate (dimension_of made.points) made.points (weight_are_points systems made.points points_are).0.one_dimension large;
+      large = large_size_from_coordinate (dimension_of made.points) made.points
+          (weight_are_points systems made.points points_are).0.one_dimension large;
       is_told = inl (large, omega arith);
     })
 
 -- there is no frame
-pub frame_stops : (systems : List Weighted) (fault : FrameFault) (told : Fault) → numbers_refusal systems ≡ None → IsFrameFault systems fault
+pub frame_stops : (systems : List Weighted) (fault : FrameFault) (told : Fault) → numbers_refusal systems ≡ None
+    → IsFrameFault systems fault
     → IsFrameStop fault told
     → Stops (IsPointsRefusal (ListedWeights systems)) told
 frame_stops systems (frames.Entry n) told numbers h e = rw e (input (entry numbers h))

@@ -38,7 +38,8 @@ pub record HasFrame (systems : List Weighted) : Type 0 where
 -- the points have, one after another, the coordinates of the exponent vectors' points
 abbrev pub HaveCoordinates : ℕ → List (List ℤ) → List (List ℤ) → List (List ℤ) → Type 0
 HaveCoordinates n vectors [] [] = Unit {0}
-HaveCoordinates n vectors (a ∷ members) (p ∷ points) = AreCoordinates n vectors (monomial_point a) p × HaveCoordinates n vectors members points
+HaveCoordinates n vectors (a ∷ members) (p ∷ points) = AreCoordinates n vectors (monomial_point a) p
+    × HaveCoordinates n vectors members points
 HaveCoordinates n vectors members points = ⊥
 
 -- there are few exponent vectors, and at least one, and these are their points in the frame

@@ -1,4 +1,5 @@
--- Boxes of vectors: at a free place the entries 0 to M, at a fixed place the entry 0. A box with j free places has (M + 1)^j members, all different.
+-- Boxes of vectors: at a free place the entries 0 to M, at a fixed place the entry 0. A box with j free places has (M + 1)^j members, all
+-- different.
 use Rattle.std.proofs.Common.{◌≡◌, ◌≢◌, ℕ, zero, suc, ◌*◌, ◌^◌, ◌<◌, ◌≤◌, List, [], ◌∷◌, ◌++◌, length, map, Bool, true, false, ℤ, pos, sym, ap, ◌∙◌, arith}
 use Rattle.std.proofs.lemmas.List.{length-append, length-map}
 use Rattle.std.proofs.lemmas.Int.{ints}
@@ -11,7 +12,8 @@ pub data Different {X : Type 0} : List X → Type 0 where
   one_more : {x : X} {xs : List X} → Each (λ y. x ≢ y) xs → Different xs → Different (x ∷ xs)
 
 -- of two lists end to end, where no member of the first is one of the second
-pub different_append : {X : Type 0} {xs ys : List X} → Different xs → Different ys → Each (λ x. Each (λ y. x ≢ y) ys) xs → Different (xs ++ ys)
+pub different_append : {X : Type 0} {xs ys : List X} → Different xs → Different ys → Each (λ x. Each (λ y. x ≢ y) ys) xs
+    → Different (xs ++ ys)
 different_append none ds es = ds
 different_append (one_more p ps) ds (more e es) = one_more (each_append p e) (different_append ps ds es)
 
@@ -46,18 +48,23 @@ box M (false ∷ mask) = map (λ x. pos 0 ∷ x) (box M mask)
 -- their number
 length-layers : (n : ℕ) (xs : List (List ℤ)) → length (layers n xs) ≡ n * length xs
 length-layers zero xs = omega arith
-length-layers (suc n) xs = let e = length-layers n xs in let f = length-append (map (λ (x : List ℤ). pos n ∷ x) xs) (layers n xs) in let g = length-map xs (λ (x : List ℤ). pos n ∷ x) in omega arith
+length-layers (suc n) xs = let e = length-layers n xs in let f = length-append (map (λ (x : List ℤ). pos n ∷ x) xs) (layers n xs) in
+    let g = length-map xs (λ (x : List ℤ). pos n ∷ x) in omega arith
 
 -- one power for each free place
 pub length-box : (M : ℕ) (mask : List Bool) → length (box M mask) ≡ suc M ^ free_places mask
 length-box M [] = sym (pow-zero (suc M))
-length-box M (true ∷ mask) = length-layers (suc M) (box M mask) ∙ ap (λ (n : ℕ). suc M * n) (length-box M mask) ∙ sym (pow-succ' (suc M) (free_places mask))
+length-box M (true ∷ mask) = length-layers (suc M) (box M mask) ∙ ap (λ (n : ℕ). suc M * n) (length-box M mask)
+    ∙ sym (pow-succ' (suc M) (free_places mask))
 length-box M (false ∷ mask) = length-map (box M mask) (λ (x : List ℤ). pos 0 ∷ x) ∙ length-box M mask
 
 -- each lies in the box
-layers_inside : (M : ℕ) (mask : List Bool) (n : ℕ) (xs : List (List ℤ)) → n ≤ suc M → Each (Inside M mask) xs → Each (Inside M (true ∷ mask)) (layers n xs)
+layers_inside : (M : ℕ) (mask : List Bool) (n : ℕ) (xs : List (List ℤ)) → n ≤ suc M → Each (Inside M mask) xs
+    → Each (Inside M (true ∷ mask)) (layers n xs)
 layers_inside M mask zero xs h ps = empty
-layers_inside M mask (suc n) xs h ps = each_append (each_map (Inside M (true ∷ mask)) (λ x. pos n ∷ x) (each_weaker (λ x p. free n (omega arith) p) ps)) (layers_inside M mask n xs (omega arith) ps)
+layers_inside M mask (suc n) xs h ps =
+    each_append (each_map (Inside M (true ∷ mask)) (λ x. pos n ∷ x) (each_weaker (λ x p. free n (omega arith) p) ps))
+    (layers_inside M mask n xs (omega arith) ps)
 
 -- all of them
 pub box_inside : (M : ℕ) (mask : List Bool) → Each (Inside M mask) (box M mask)
@@ -99,7 +106,8 @@ all_layers_apart m (x ∷ xs) ys = more (layers_apart m m x ys (omega arith)) (a
 -- the layers differ
 layers_different : (n : ℕ) (xs : List (List ℤ)) → Different xs → Different (layers n xs)
 layers_different zero xs d = none
-layers_different (suc n) xs d = different_append (different_map (λ x. pos n ∷ x) (λ x y u. still_different (pos n) x y u) d) (layers_different n xs d) (all_layers_apart n xs xs)
+layers_different (suc n) xs d = different_append (different_map (λ x. pos n ∷ x) (λ x y u. still_different (pos n) x y u) d)
+    (layers_different n xs d) (all_layers_apart n xs xs)
 
 -- the members of a box differ
 pub box_different : (M : ℕ) (mask : List Bool) → Different (box M mask)

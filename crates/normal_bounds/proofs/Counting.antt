@@ -22,14 +22,26 @@ record Agreement (ws xs : List (List ℤ)) : Type 0 where
 
 -- one more vector: an agreement among those of one value
 agreement_more : {w : List ℤ} {ws xs : List (List ℤ)} {n : ℕ} (c : Crowd (dot w) n xs) → Agreement ws c.members → Agreement (w ∷ ws) xs
-agreement_more c r = record { members = r.members; among = among_among r.among c.among; many = r.many; same = more (c.value, each_among r.among c.same) r.same }
+agreement_more c r = record {
+  members = r.members;
+  among = among_among r.among c.among;
+  many = r.many;
+  same = more (c.value, each_among r.among c.same) r.same;
+}
 
 -- one vector after another, on a list that shrinks
-agreement : (T M : ℕ) (mask : List Bool) (ws xs : List (List ℤ)) → Each (λ w. absolute_sum w ≤ T) ws → Each (Inside M mask) xs → suc (T * M) ^ length ws < length xs → Agreement ws xs
-agreement T M mask [] xs hs ps l = record { members = xs; among = among_itself xs; many = let e = pow-zero (suc (T * M)) in omega arith; same = empty }
+agreement : (T M : ℕ) (mask : List Bool) (ws xs : List (List ℤ)) → Each (λ w. absolute_sum w ≤ T) ws → Each (Inside M mask) xs
+    → suc (T * M) ^ length ws < length xs → Agreement ws xs
+agreement T M mask [] xs hs ps l = record {
+  members = xs;
+  among = among_itself xs;
+  many = let e = pow-zero (suc (T * M)) in omega arith;
+  same = empty;
+}
 agreement T M mask (w ∷ ws) xs hs ps l =
     let e = pow-succ' (suc (T * M)) (length ws) in
-    let c = crowd (dot w) (suc (T * M)) (suc (T * M) ^ length ws) (pos (range_low M w)) xs (dots_one_of T M mask w (each_head hs) ps) (omega arith) in
+    let c = crowd (dot w) (suc (T * M)) (suc (T * M) ^ length ws) (pos (range_low M w)) xs (dots_one_of T M mask w (each_head hs) ps)
+    (omega arith) in
     agreement_more c (agreement T M mask ws c.members (each_tail hs) (each_among c.among ps) c.many)
 
 -- a place is fixed by a mask, or past its end
@@ -94,30 +106,39 @@ cancel_equal : (a b : ℤ) → pos 1 *ℤ a +ℤ negsuc 0 *ℤ b ≡ pos 0 → a
 cancel_equal a b e = omega (arith, ints)
 
 -- the difference pairs to 0 where both vectors have the same pairings
-difference_kills : {x y : List ℤ} {zs : List (List ℤ)} {ws : List (List ℤ)} → Each (λ w. (v : ℤ) × Each (λ z. dot w z ≡ v) (x ∷ (y ∷ zs))) ws → Each (λ w. dot (difference x y) w ≡ pos 0) ws
+difference_kills : {x y : List ℤ} {zs : List (List ℤ)} {ws : List (List ℤ)}
+    → Each (λ w. (v : ℤ) × Each (λ z. dot w z ≡ v) (x ∷ (y ∷ zs))) ws → Each (λ w. dot (difference x y) w ≡ pos 0) ws
 difference_kills empty = empty
 difference_kills {x = x} {y = y} (more {x = w} (v, p) ps) = more
-    (dot-combined_left (pos 1) x (negsuc 0) y w ∙ equal_cancel (dot x w) (dot y w) v (dot_comm x w ∙ each_head p) (dot_comm y w ∙ each_head (each_tail p)))
+    (dot-combined_left (pos 1) x (negsuc 0) y w ∙ equal_cancel (dot x w) (dot y w) v (dot_comm x w ∙ each_head p)
+    (dot_comm y w ∙ each_head (each_tail p)))
     (difference_kills ps)
 
 -- two different vectors of a box with the same pairings
-found_from_two : {M : ℕ} {mask : List Bool} {ws : List (List ℤ)} (x y : List ℤ) → x ≢ y → Inside M mask x → Inside M mask y → Each (λ w. dot (difference x y) w ≡ pos 0) ws → IsFound M mask ws (difference x y)
+found_from_two : {M : ℕ} {mask : List Bool} {ws : List (List ℤ)} (x y : List ℤ) → x ≢ y → Inside M mask x → Inside M mask y
+    → Each (λ w. dot (difference x y) w ≡ pos 0) ws → IsFound M mask ws (difference x y)
 found_from_two {M = M} {mask = mask} x y n p q z = record {
   dimension = length-combined (length mask) (pos 1) x (negsuc 0) y (inside_length p) (inside_length q);
-  nonzero = λ h. n (same_from_entries x y (inside_length p ∙ sym (inside_length q)) (λ i. cancel_equal (entry x i) (entry y i) (sym (entry-combined (pos 1) x (negsuc 0) y i) ∙ entries_from_zero (difference x y) h i)));
+  nonzero = λ h. n (same_from_entries x y (inside_length p ∙ sym (inside_length q))
+      (λ i. cancel_equal (entry x i) (entry y i) (sym (entry-combined (pos 1) x (negsuc 0) y i) ∙ entries_from_zero (difference x y) h i)));
   annihilates = z;
-  within = λ i. subst (λ (a : ℤ). nat_abs a ≤ M) (sym (entry-combined (pos 1) x (negsuc 0) y i)) (close M (entry x i) (entry y i) (inside_entry p i) (inside_entry q i));
-  zeros = λ i f. entry-combined (pos 1) x (negsuc 0) y i ∙ equal_cancel (entry x i) (entry y i) (pos 0) (inside_fixed p i f) (inside_fixed q i f);
+  within = λ i. subst (λ (a : ℤ). nat_abs a ≤ M) (sym (entry-combined (pos 1) x (negsuc 0) y i))
+      (close M (entry x i) (entry y i) (inside_entry p i) (inside_entry q i));
+  zeros = λ i f. entry-combined (pos 1) x (negsuc 0) y i ∙ equal_cancel (entry x i) (entry y i) (pos 0) (inside_fixed p i f)
+      (inside_fixed q i f);
 }
 
 -- the first two of many
-found_from : {M : ℕ} {mask : List Bool} {ws : List (List ℤ)} (xs : List (List ℤ)) → 1 < length xs → Different xs → Each (Inside M mask) xs → Each (λ w. (v : ℤ) × Each (λ x. dot w x ≡ v) xs) ws → (x : List ℤ) × IsFound M mask ws x
+found_from : {M : ℕ} {mask : List Bool} {ws : List (List ℤ)} (xs : List (List ℤ)) → 1 < length xs → Different xs → Each (Inside M mask) xs
+    → Each (λ w. (v : ℤ) × Each (λ x. dot w x ≡ v) xs) ws → (x : List ℤ) × IsFound M mask ws x
 found_from [] l d ps z = absurd (omega arith)
 found_from (x ∷ []) l d ps z = absurd (omega arith)
-found_from (x ∷ (y ∷ xs)) l (one_more n d) ps z = (difference x y, found_from_two x y (each_head n) (each_head ps) (each_head (each_tail ps)) (difference_kills z))
+found_from (x ∷ (y ∷ xs)) l (one_more n d) ps z =
+    (difference x y, found_from_two x y (each_head n) (each_head ps) (each_head (each_tail ps)) (difference_kills z))
 
 -- fewer vectors of absolute sum at most T than free places
-pub found : (T : ℕ) (mask : List Bool) (ws : List (List ℤ)) → 1 ≤ T → Each (λ w. absolute_sum w ≤ T) ws → length ws < free_places mask → (x : List ℤ) × IsFound (T ^ length ws) mask ws x
+pub found : (T : ℕ) (mask : List Bool) (ws : List (List ℤ)) → 1 ≤ T → Each (λ w. absolute_sum w ≤ T) ws → length ws < free_places mask
+    → (x : List ℤ) × IsFound (T ^ length ws) mask ws x
 found T mask ws t hs l =
     let M = T ^ length ws in
     let e = length-box M mask in
@@ -141,9 +162,15 @@ free-all_free zero = refl
 free-all_free (suc n) = ap suc (free-all_free n)
 
 -- from the box whose places are all free
-counting_from : (T : ℕ) {k : ℕ} {vectors : List (List ℤ)} {x : List ℤ} → length vectors ≡ k → IsFound (T ^ length vectors) (all_free (suc k)) vectors x
+counting_from : (T : ℕ) {k : ℕ} {vectors : List (List ℤ)} {x : List ℤ} → length vectors ≡ k
+    → IsFound (T ^ length vectors) (all_free (suc k)) vectors x
     → (length x ≡ suc k) × (All (λ a. a ≡ pos 0) x → ⊥) × Annihilates vectors x × EntriesWithin (T ^ k) x
-counting_from T {k = k} {x = x} e f = (f.dimension ∙ length-all_free (suc k), f.nonzero, all_from_each f.annihilates, subst (λ (j : ℕ). EntriesWithin (T ^ j) x) e f.within)
+counting_from T {k = k} {x = x} e f = (
+  f.dimension ∙ length-all_free (suc k),
+  f.nonzero,
+  all_from_each f.annihilates,
+  subst (λ (j : ℕ). EntriesWithin (T ^ j) x) e f.within,
+)
 
 -- the law
 pub counting_bound_lem : CountingBound

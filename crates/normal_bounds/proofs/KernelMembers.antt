@@ -1,4 +1,5 @@
--- The bound on the members of a kernel: a member is no larger than a vector that pairs to 0 with the pivots and is 0 at the own places of the others.
+-- The bound on the members of a kernel: a member is no larger than a vector that pairs to 0 with the pivots and is 0 at the own places of
+-- the others.
 use Rattle.std.proofs.Common.{◌≡◌, ℕ, zero, suc, ◌+◌, ◌^◌, ◌<◌, ◌≤◌, List, [], ◌∷◌, ◌++◌, length, Bool, true, false, ℤ, pos, nat_abs, refl, sym, ap, ◌∙◌, subst, All, arith}
 use Rattle.std.proofs.lemmas.List.{length-append}
 use Rattle.std.proofs.Math.Nat.{mul-le-mul_left, pow-suc}
@@ -66,7 +67,8 @@ free-mask_of m (l ∷ ls) = let e = free-mask_of m ls in let f = free-fix (mask_
 -- all own places are fixed
 fixed-mask_of : (m : ℕ) (ls : List Member) → Each (λ l. IsFixed (mask_of m ls) l.own) ls
 fixed-mask_of m [] = empty
-fixed-mask_of m (l ∷ ls) = more (fixed_there (mask_of m ls) l.own) (each_weaker (λ k h. fixed_still (mask_of m ls) l.own k.own h) (fixed-mask_of m ls))
+fixed-mask_of m (l ∷ ls) = more (fixed_there (mask_of m ls) l.own) (each_weaker (λ k h. fixed_still (mask_of m ls) l.own k.own h)
+    (fixed-mask_of m ls))
 
 -- a member, and the members before and behind it
 record Split (k : Member) (ks : List Member) : Type 0 where
@@ -77,23 +79,29 @@ record Split (k : Member) (ks : List Member) : Type 0 where
 -- a list split at a member
 split_at : {k : Member} {ks : List Member} → In k ks → Split k ks
 split_at (here {xs = xs}) = record { before = []; after = xs; same = refl }
-split_at (there {y = y} i) = let s = split_at i in record { before = y ∷ s.before; after = s.after; same = ap (λ (ls : List Member). y ∷ ls) s.same }
+split_at (there {y = y} i) = let s = split_at i in
+    record { before = y ∷ s.before; after = s.after; same = ap (λ (ls : List Member). y ∷ ls) s.same }
 
 -- a member of a kernel, by a vector that is found with the own places of the others fixed
-member_from : (m bound : ℕ) (pivots : List (List ℤ)) (before : List Member) (k : Member) (after : List Member) (x : List ℤ) → IsKernel m pivots (before ++ (k ∷ after)) → IsPrimitive k.vector
+member_from : (m bound : ℕ) (pivots : List (List ℤ)) (before : List Member) (k : Member) (after : List Member) (x : List ℤ)
+    → IsKernel m pivots (before ++ (k ∷ after)) → IsPrimitive k.vector
     → IsFound bound (mask_of m (before ++ after)) pivots x → EntriesWithin bound k.vector
-member_from m bound pivots before k after x h p f = by (kernel_member_lem m pivots before k after h x (f.dimension ∙ length-mask_of m (before ++ after)) (all_from_each f.annihilates)
+member_from m bound pivots before k after x h p f =
+    by (kernel_member_lem m pivots before k after h x (f.dimension ∙ length-mask_of m (before ++ after)) (all_from_each f.annihilates)
     (all_from_each (each_weaker {Q = λ l. entry x l.own ≡ pos 0} (λ l z. f.zeros l.own z) (fixed-mask_of m (before ++ after)))))
   where
     by : IsVectorMultiple x k.vector → EntriesWithin bound k.vector
     by s = primitive_within bound s.left s.right x k.vector s.nonzero p s.same f.nonzero f.within
 
 -- fewer pivots than free places
-fewer_pivots : (m j : ℕ) (before : List Member) (k : Member) (after : List Member) → j + length (before ++ (k ∷ after)) ≡ m → j < free_places (mask_of m (before ++ after))
-fewer_pivots m j before k after e = let f = free-mask_of m (before ++ after) in let a = length-append before (k ∷ after) in let b = length-append before after in omega arith
+fewer_pivots : (m j : ℕ) (before : List Member) (k : Member) (after : List Member) → j + length (before ++ (k ∷ after)) ≡ m
+    → j < free_places (mask_of m (before ++ after))
+fewer_pivots m j before k after e = let f = free-mask_of m (before ++ after) in let a = length-append before (k ∷ after) in
+    let b = length-append before after in omega arith
 
 -- the entries of a member
-member_entries : (m T : ℕ) (vectors pivots : List (List ℤ)) (ks : List Member) (k : Member) → 1 ≤ T → ArePivots m vectors pivots ks → All (λ v. absolute_sum v ≤ T) pivots → Split k ks → IsPrimitive k.vector → EntriesWithin (T ^ length pivots) k.vector
+member_entries : (m T : ℕ) (vectors pivots : List (List ℤ)) (ks : List Member) (k : Member) → 1 ≤ T → ArePivots m vectors pivots ks
+    → All (λ v. absolute_sum v ≤ T) pivots → Split k ks → IsPrimitive k.vector → EntriesWithin (T ^ length pivots) k.vector
 member_entries m T vectors pivots ks k t hp hs s p =
     let f = found T (mask_of m (s.before ++ s.after)) pivots t (each_from_all (λ v. absolute_sum v ≤ T) pivots hs)
     (fewer_pivots m (length pivots) s.before k s.after (ap (λ (ls : List Member). length pivots + length ls) (sym s.same) ∙ hp.count)) in
@@ -101,7 +109,8 @@ member_entries m T vectors pivots ks k t hp hs s p =
 
 -- a pairing with a vector of absolute sum at most T
 value_within : (T j : ℕ) (x v : List ℤ) → EntriesWithin (T ^ j) x → absolute_sum v ≤ T → nat_abs (dot x v) ≤ T ^ (j + 1)
-value_within T j x v h l = let e = pairing_bound_lem (T ^ j) x v h in let f = mul-le-mul_left (T ^ j) l in let g = pow-suc T j in let i : T ^ (j + 1) ≡ T ^ suc j = ap (λ (n : ℕ). T ^ n) (next j) in omega arith
+value_within T j x v h l = let e = pairing_bound_lem (T ^ j) x v h in let f = mul-le-mul_left (T ^ j) l in let g = pow-suc T j in
+    let i : T ^ (j + 1) ≡ T ^ suc j = ap (λ (n : ℕ). T ^ n) (next j) in omega arith
   where
     next : (n : ℕ) → n + 1 ≡ suc n
     next n = omega arith

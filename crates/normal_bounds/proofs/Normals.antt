@@ -24,7 +24,8 @@ factor_within k a n = let e = abs_product k a in let f = mul-le-mul_right (nat_a
     above_zero k n = omega (arith, ints)
 
 -- a primitive vector is no larger than a vector on its line that isn't 0
-pub primitive_within : (bound : ℕ) (q p : ℤ) (x f : List ℤ) → q ≢ pos 0 → IsPrimitive f → scaled q x ≡ scaled p f → (All (λ a. a ≡ pos 0) x → ⊥) → EntriesWithin bound x → EntriesWithin bound f
+pub primitive_within : (bound : ℕ) (q p : ℤ) (x f : List ℤ) → q ≢ pos 0 → IsPrimitive f → scaled q x ≡ scaled p f
+    → (All (λ a. a ≡ pos 0) x → ⊥) → EntriesWithin bound x → EntriesWithin bound f
 primitive_within bound q p x f n h e z b = let s = multiple_of_primitive q p x f n h e in by s.0 s.2
   where
     by : (k : ℤ) → x ≡ scaled k f → (i : ℕ) → nat_abs (entry f i) ≤ bound
@@ -42,13 +43,15 @@ step_from p q = combined (pos 1) q (negsuc 0) p
 
 -- its absolute sum
 step_absolute_sum : (S : ℕ) (p q : List ℤ) → absolute_sum p ≤ S → absolute_sum q ≤ S → absolute_sum (step_from p q) ≤ 2 * S
-step_absolute_sum S p q h k = let e = difference_absolute_sum_lem q p (step_from p q) (λ i. entry-combined (pos 1) q (negsuc 0) p i ∙ as_difference (entry q i) (entry p i)) in omega arith
+step_absolute_sum S p q h k = let e = difference_absolute_sum_lem q p (step_from p q) (λ i. entry-combined (pos 1) q (negsuc 0) p i
+    ∙ as_difference (entry q i) (entry p i)) in omega arith
   where
     as_difference : (a b : ℤ) → pos 1 *ℤ a +ℤ negsuc 0 *ℤ b ≡ a -ℤ b
     as_difference a b = omega (arith, ints)
 
 -- of all points
-steps_absolute_sum : (S : ℕ) (p : List ℤ) {ps : List (List ℤ)} → absolute_sum p ≤ S → Each (λ q. absolute_sum q ≤ S) ps → Each (λ w. absolute_sum w ≤ 2 * S) (map (step_from p) ps)
+steps_absolute_sum : (S : ℕ) (p : List ℤ) {ps : List (List ℤ)} → absolute_sum p ≤ S → Each (λ q. absolute_sum q ≤ S) ps
+    → Each (λ w. absolute_sum w ≤ 2 * S) (map (step_from p) ps)
 steps_absolute_sum S p h empty = empty
 steps_absolute_sum S p h (more {x = q} k ks) = more (step_absolute_sum S p q h k) (steps_absolute_sum S p h ks)
 
@@ -57,9 +60,11 @@ abbrev through : List ℤ → List ℤ → Affine
 through x p = record { normal = x; constant = neg_ℤ (dot x p) }
 
 -- it vanishes on the points whose differences its normal pairs to 0 with
-through_vanishes : (x p : List ℤ) (ps : List (List ℤ)) → Each (λ w. dot x w ≡ pos 0) (map (step_from p) ps) → Each (λ q. value (through x p) q ≡ pos 0) ps
+through_vanishes : (x p : List ℤ) (ps : List (List ℤ)) → Each (λ w. dot x w ≡ pos 0) (map (step_from p) ps)
+    → Each (λ q. value (through x p) q ≡ pos 0) ps
 through_vanishes x p [] h = empty
-through_vanishes x p (q ∷ ps) (more e es) = more (vanishes (dot x q) (dot x p) (sym (dot-combined_right x (pos 1) q (negsuc 0) p) ∙ e)) (through_vanishes x p ps es)
+through_vanishes x p (q ∷ ps) (more e es) = more (vanishes (dot x q) (dot x p) (sym (dot-combined_right x (pos 1) q (negsuc 0) p) ∙ e))
+    (through_vanishes x p ps es)
   where
     vanishes : (a b : ℤ) → pos 1 *ℤ a +ℤ negsuc 0 *ℤ b ≡ pos 0 → a +ℤ neg_ℤ b ≡ pos 0
     vanishes a b u = omega (arith, ints)
@@ -71,10 +76,12 @@ pub record IsBounded (k S : ℕ) (f : Affine) : Type 0 where
   pub values : (q : List ℤ) → absolute_sum q ≤ S → nat_abs (value f q) ≤ (2 * S) ^ suc k
 
 -- the constant is the negative of the pairing at a point, and a value the pairing with a difference
-bounded_from : (k S : ℕ) (f : Affine) (p : List ℤ) → value f p ≡ pos 0 → absolute_sum p ≤ S → EntriesWithin ((2 * S) ^ k) f.normal → IsBounded k S f
+bounded_from : (k S : ℕ) (f : Affine) (p : List ℤ) → value f p ≡ pos 0 → absolute_sum p ≤ S → EntriesWithin ((2 * S) ^ k) f.normal
+    → IsBounded k S f
 bounded_from k S f p e h b = record {
   normal = b;
-  constant = let u = pairing_bound_lem ((2 * S) ^ k) f.normal p b in let w = mul-le-mul_left ((2 * S) ^ k) h in let v = opposite (dot f.normal p) f.constant e in omega arith;
+  constant = let u = pairing_bound_lem ((2 * S) ^ k) f.normal p b in let w = mul-le-mul_left ((2 * S) ^ k) h in
+      let v = opposite (dot f.normal p) f.constant e in omega arith;
   values = λ q l. value_within q l;
 }
   where
@@ -94,8 +101,10 @@ bounded_from k S f p e h b = record {
 
 -- from a vector that pairs to 0 with the differences
 normal_from : (k S : ℕ) (p : List ℤ) (ps : List (List ℤ)) (f : Affine) (x : List ℤ) → IsFixedBy (suc k) (p ∷ ps) f → length x ≡ suc k
-    → (All (λ a. a ≡ pos 0) x → ⊥) → Each (λ w. dot x w ≡ pos 0) (map (step_from p) ps) → EntriesWithin ((2 * S) ^ k) x → EntriesWithin ((2 * S) ^ k) f.normal
-normal_from k S p ps f x s l n a b = by (s.determined (through x p) l (all_from_each (more (cancelled (dot x p)) (through_vanishes x p ps a))))
+    → (All (λ a. a ≡ pos 0) x → ⊥) → Each (λ w. dot x w ≡ pos 0) (map (step_from p) ps) → EntriesWithin ((2 * S) ^ k) x
+    → EntriesWithin ((2 * S) ^ k) f.normal
+normal_from k S p ps f x s l n a b =
+    by (s.determined (through x p) l (all_from_each (more (cancelled (dot x p)) (through_vanishes x p ps a))))
   where
     cancelled : (a : ℤ) → a +ℤ neg_ℤ a ≡ pos 0
     cancelled a = omega (arith, linear)
@@ -104,17 +113,21 @@ normal_from k S p ps f x s l n a b = by (s.determined (through x p) l (all_from_
     by m = primitive_within ((2 * S) ^ k) m.left m.right x f.normal m.nonzero s.primitive m.normals n b
 
 -- for points with a first one
-bounded : (k S : ℕ) (p : List ℤ) (ps : List (List ℤ)) (f : Affine) → 1 ≤ S → length ps ≡ k → Each (λ q. absolute_sum q ≤ S) (p ∷ ps) → IsFixedBy (suc k) (p ∷ ps) f → IsBounded k S f
-bounded k S p ps f t e h s = by (counting_bound_lem k (2 * S) steps (omega arith) (length-map ps (step_from p) ∙ e) (all_from_each (steps_absolute_sum S p (each_head h) (each_tail h))))
+bounded : (k S : ℕ) (p : List ℤ) (ps : List (List ℤ)) (f : Affine) → 1 ≤ S → length ps ≡ k → Each (λ q. absolute_sum q ≤ S) (p ∷ ps)
+    → IsFixedBy (suc k) (p ∷ ps) f → IsBounded k S f
+bounded k S p ps f t e h s = by (counting_bound_lem k (2 * S) steps (omega arith) (length-map ps (step_from p) ∙ e)
+    (all_from_each (steps_absolute_sum S p (each_head h) (each_tail h))))
   where
     steps : List (List ℤ)
     steps = map (step_from p) ps
 
-    by : (x : List ℤ) × (length x ≡ suc k) × (All (λ a. a ≡ pos 0) x → ⊥) × Annihilates (map (step_from p) ps) x × EntriesWithin ((2 * S) ^ k) x → IsBounded k S f
+    by : (x : List ℤ) × (length x ≡ suc k) × (All (λ a. a ≡ pos 0) x → ⊥) × Annihilates (map (step_from p) ps) x
+        × EntriesWithin ((2 * S) ^ k) x → IsBounded k S f
     by (x, l, n, a, b) = bounded_from k S f p (each_head (each_from_all (λ q. value f q ≡ pos 0) (p ∷ ps) s.vanishes)) (each_head h)
         (normal_from k S p ps f x s l n (each_from_all (λ w. dot x w ≡ pos 0) (map (step_from p) ps) a) b)
 
 -- the law
 pub normal_bound_lem : NormalBound
 normal_bound_lem k S [] f t e d h s = absurd (omega arith)
-normal_bound_lem k S (p ∷ ps) f t e d h s = let b = bounded k S p ps f t (omega arith) (each_from_all (λ q. absolute_sum q ≤ S) (p ∷ ps) h) s in (b.normal, b.constant, b.values)
+normal_bound_lem k S (p ∷ ps) f t e d h s = let b =
+    bounded k S p ps f t (omega arith) (each_from_all (λ q. absolute_sum q ≤ S) (p ∷ ps) h) s in (b.normal, b.constant, b.values)

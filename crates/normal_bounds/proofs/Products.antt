@@ -24,11 +24,15 @@ pub members_fit_lem : MembersFit
 members_fit_lem m S vectors pivots ks s h hp hs k c p =
     let b = member_bound_lem m (2 * S) vectors pivots ks (twice_positive S s) hp hs k c p in
     let l = some_member (length pivots) m ks k c hp.count in
-    let n = values_fit_lem m (length pivots + 1) S l h in
-    (all_below ((2 * S) ^ length pivots) (2 ^ 63) k.vector b.0 (entries_fit_lem m (length pivots) S l h), λ v w. let u = b.1 v w in omega arith)
+    let n = values_fit_lem m (length pivots + 1) S l h in (
+      all_below ((2 * S) ^ length pivots) (2 ^ 63) k.vector b.0 (entries_fit_lem m (length pivots) S l h),
+      λ v w. let u = b.1 v w in
+          omega arith,
+    )
 
 -- each product of a number with an entry is at most the product of both bounds
-products_below : (limit b₁ b₂ : ℕ) (b : ℤ) (x : List ℤ) → nat_abs b ≤ b₁ → EntriesWithin b₂ x → b₁ * b₂ < limit → All (λ a. nat_abs (b *ℤ a) < limit) x
+products_below : (limit b₁ b₂ : ℕ) (b : ℤ) (x : List ℤ) → nat_abs b ≤ b₁ → EntriesWithin b₂ x → b₁ * b₂ < limit
+    → All (λ a. nat_abs (b *ℤ a) < limit) x
 products_below limit b₁ b₂ b x h w l k d i = below (get_or x k d) (all_within b₂ x w k d i)
   where
     below : (a : ℤ) → nat_abs a ≤ b₂ → nat_abs (b *ℤ a) < limit
@@ -53,12 +57,17 @@ functions_fit_lem k S points f s h e d w g =
     let b = normal_bound_lem k S points f s e d w g in
     let u = values_fit_lem (suc k) (suc k) S (omega arith) h in
     let v = pow-suc (2 * S) k in
-    let r : (2 * S) ^ k * S ≤ (2 * S) ^ k * (2 * S) = mul-le-mul_left ((2 * S) ^ k) (once_twice S) in
-    (all_below ((2 * S) ^ k) (2 ^ 63) f.normal b.0 (entries_fit_lem (suc k) k S (omega arith) h), let c = b.1 in omega arith, λ q l. let c = b.2 q l in omega arith)
+    let r : (2 * S) ^ k * S ≤ (2 * S) ^ k * (2 * S) = mul-le-mul_left ((2 * S) ^ k) (once_twice S) in (
+      all_below ((2 * S) ^ k) (2 ^ 63) f.normal b.0 (entries_fit_lem (suc k) k S (omega arith) h),
+      let c = b.1 in
+          omega arith,
+      λ q l. let c = b.2 q l in omega arith,
+    )
   where
     once_twice : (S : ℕ) → S ≤ 2 * S
     once_twice S = omega arith
 
 -- the law on products of values and entries
 pub combine_products_fit_lem : CombineProductsFit
-combine_products_fit_lem k S b x h l w = products_below (2 ^ 126) ((2 * S) ^ suc k) ((2 * S) ^ k) b x l w (let e = combine_fits_lem k S h in omega arith)
+combine_products_fit_lem k S b x h l w = products_below (2 ^ 126) ((2 * S) ^ suc k) ((2 * S) ^ k) b x l w (let e = combine_fits_lem k S h in
+    omega arith)

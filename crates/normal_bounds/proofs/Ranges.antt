@@ -1,4 +1,5 @@
--- The values of a pairing on a box: those of <w, x> lie in a range of M times w's absolute sum, which begins at -M times the absolute sum of w's negative entries.
+-- The values of a pairing on a box: those of <w, x> lie in a range of M times w's absolute sum, which begins at -M times the absolute sum
+-- of w's negative entries.
 use Rattle.std.proofs.Common.{◌≡◌, ℕ, zero, suc, ◌+◌, ◌*◌, ◌^◌, ◌<◌, ◌≤◌, List, [], ◌∷◌, Bool, ℤ, pos, negsuc, ◌+ℤ◌, ◌*ℤ◌, nat_abs, refl, ap, arith}
 use Rattle.std.proofs.lemmas.Int.{ints}
 use Rattle.std.proofs.lemmas.Nat.{mul-pow}
@@ -45,8 +46,17 @@ rest_of (suc n) (suc M) h = let r = rest_of n M (omega arith) in record { rest =
 
 -- products with a number from 0 to M
 range_product : (M n : ℕ) (a : ℤ) → n ≤ M → InRange (M * deficit a) (M * nat_abs a) (a *ℤ pos n)
-range_product M n (pos p) h = record { place = p * n; below = let e = mul-le-mul_left p h in omega (arith, ints); same = omega (arith, ints) }
-range_product M n (negsuc p) h = let r = rest_of n M h in record { place = suc p * r.rest; below = let e = mul-le-mul_left (suc p) (rest_below r.sums) in omega (arith, ints); same = below_zero M n p r.rest r.sums }
+range_product M n (pos p) h = record {
+  place = p * n;
+  below = let e = mul-le-mul_left p h in omega (arith, ints);
+  same = omega (arith, ints);
+}
+range_product M n (negsuc p) h = let r = rest_of n M h in
+    record {
+      place = suc p * r.rest;
+      below = let e = mul-le-mul_left (suc p) (rest_below r.sums) in omega (arith, ints);
+      same = below_zero M n p r.rest r.sums;
+    }
   where
     rest_below : {r : ℕ} → n + r ≡ M → r ≤ M
     rest_below e = omega arith
@@ -86,7 +96,8 @@ length_by_absolute_sum M [] = omega arith
 length_by_absolute_sum M (a ∷ w) = let e = length_by_absolute_sum M w in omega arith
 
 -- for absolute sum at most T it is one of T M + 1 numbers
-dot_one_of : (T M : ℕ) (w : List ℤ) {mask : List Bool} {x : List ℤ} → absolute_sum w ≤ T → Inside M mask x → IsOneOf (suc (T * M)) (pos (range_low M w)) (dot w x)
+dot_one_of : (T M : ℕ) (w : List ℤ) {mask : List Bool} {x : List ℤ} → absolute_sum w ≤ T → Inside M mask x
+    → IsOneOf (suc (T * M)) (pos (range_low M w)) (dot w x)
 dot_one_of T M w l h = let r = range_dot M w h in record {
   place = r.place;
   below = let b = r.below in let e = length_by_absolute_sum M w in let f = mul-le-mul_left M l in omega arith;
@@ -94,7 +105,8 @@ dot_one_of T M w l h = let r = range_dot M w h in record {
 }
 
 -- for all vectors of a box
-pub dots_one_of : (T M : ℕ) (mask : List Bool) (w : List ℤ) → absolute_sum w ≤ T → {xs : List (List ℤ)} → Each (Inside M mask) xs → Each (λ x. IsOneOf (suc (T * M)) (pos (range_low M w)) (dot w x)) xs
+pub dots_one_of : (T M : ℕ) (mask : List Bool) (w : List ℤ) → absolute_sum w ≤ T → {xs : List (List ℤ)} → Each (Inside M mask) xs
+    → Each (λ x. IsOneOf (suc (T * M)) (pos (range_low M w)) (dot w x)) xs
 dots_one_of T M mask w l empty = empty
 dots_one_of T M mask w l (more {x = x} p ps) = more (dot_one_of T M w l p) (dots_one_of T M mask w l ps)
 

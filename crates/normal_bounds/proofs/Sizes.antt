@@ -18,7 +18,8 @@ all_within bound x h k d l = subst (λ (a : ℤ). nat_abs a ≤ bound) (get_or_d
 
 -- and back
 pub within_from_all : (bound : ℕ) (x : List ℤ) → All (λ a. nat_abs a ≤ bound) x → EntriesWithin bound x
-within_from_all bound x h i = ⊎_elim (λ (l : i < length x). h i (pos 0) l) (λ (l : length x ≤ i). let e = ap nat_abs (entry_past x i l) in omega (arith, ints)) (cases_lt i (length x))
+within_from_all bound x h i = ⊎_elim (λ (l : i < length x). h i (pos 0) l) (λ (l : length x ≤ i). let e = ap nat_abs (entry_past x i l) in
+    omega (arith, ints)) (cases_lt i (length x))
 
 -- below a number that is above the bound
 pub all_below : (bound limit : ℕ) (x : List ℤ) → EntriesWithin bound x → bound < limit → All (λ a. nat_abs a < limit) x
@@ -32,8 +33,10 @@ abs_product (negsuc m) (pos n) = omega (arith, ints)
 abs_product (negsuc m) (negsuc n) = omega (arith, ints)
 
 -- of a product and a sum
-product_and_sum : (bound : ℕ) (a b d : ℤ) (w : ℕ) → nat_abs a ≤ bound → nat_abs d ≤ bound * w → nat_abs (a *ℤ b +ℤ d) ≤ bound * (nat_abs b + w)
-product_and_sum bound a b d w h k = let e = abs_product a b in let f = mul-le-mul_right (nat_abs b) h in let g = sum_within (a *ℤ b) d in omega arith
+product_and_sum : (bound : ℕ) (a b d : ℤ) (w : ℕ) → nat_abs a ≤ bound → nat_abs d ≤ bound * w
+    → nat_abs (a *ℤ b +ℤ d) ≤ bound * (nat_abs b + w)
+product_and_sum bound a b d w h k = let e = abs_product a b in let f = mul-le-mul_right (nat_abs b) h in let g = sum_within (a *ℤ b) d in
+    omega arith
   where
     sum_within : (a b : ℤ) → nat_abs (a +ℤ b) ≤ nat_abs a + nat_abs b
     sum_within a b = omega (arith, ints)
@@ -42,7 +45,8 @@ product_and_sum bound a b d w h k = let e = abs_product a b in let f = mul-le-mu
 pub pairing_bound_lem : PairingBound
 pairing_bound_lem bound [] y h = omega (arith, ints)
 pairing_bound_lem bound (a ∷ x) [] h = omega (arith, ints)
-pairing_bound_lem bound (a ∷ x) (b ∷ y) h = product_and_sum bound a b (dot x y) (absolute_sum y) (h 0) (pairing_bound_lem bound x y (λ i. h (suc i)))
+pairing_bound_lem bound (a ∷ x) (b ∷ y) h =
+    product_and_sum bound a b (dot x y) (absolute_sum y) (h 0) (pairing_bound_lem bound x y (λ i. h (suc i)))
 
 -- the sum of the first n absolute values
 abbrev first_sum : ℕ → List ℤ → ℕ
@@ -66,11 +70,14 @@ sum_within_size (suc n) points m = let e = sum_within_size n points m in let f =
 
 -- a point of n coordinates
 absolute_sum_within_size : {p : List ℤ} (n : ℕ) (points : List (List ℤ)) → length p ≡ n → In p points → absolute_sum p ≤ size n points
-absolute_sum_within_size {p = p} n points e m = let f = absolute_sum_sum p in let g = ap (λ (k : ℕ). first_sum k p) e in let h = sum_within_size n points m in omega arith
+absolute_sum_within_size {p = p} n points e m = let f = absolute_sum_sum p in let g = ap (λ (k : ℕ). first_sum k p) e in
+    let h = sum_within_size n points m in omega arith
 
 -- the law on points
 pub point_absolute_sum_lem : PointAbsoluteSum
-point_absolute_sum_lem n points d = all_from_each (each_from_in points (λ p m. absolute_sum_within_size n points (each_in (each_from_all (λ q. length q ≡ n) points d) m) m))
+point_absolute_sum_lem n points d =
+    all_from_each (each_from_in points (λ p m. absolute_sum_within_size n points (each_in (each_from_all (λ q. length q ≡ n) points d) m)
+    m))
 
 -- one more entry of a difference
 absolute_sum_more : (a b c : ℤ) (p q w : ℕ) → c ≡ a -ℤ b → w ≤ p + q → nat_abs c + w ≤ (nat_abs a + p) + (nat_abs b + q)
@@ -79,7 +86,11 @@ absolute_sum_more a b c p q w e h = omega (arith, ints)
 -- the law on differences
 pub difference_absolute_sum_lem : DifferenceAbsoluteSum
 difference_absolute_sum_lem p q [] h = omega arith
-difference_absolute_sum_lem [] [] (c ∷ w) h = absolute_sum_more (pos 0) (pos 0) c 0 0 (absolute_sum w) (h 0) (difference_absolute_sum_lem [] [] w (λ i. h (suc i)))
-difference_absolute_sum_lem [] (b ∷ q) (c ∷ w) h = absolute_sum_more (pos 0) b c 0 (absolute_sum q) (absolute_sum w) (h 0) (difference_absolute_sum_lem [] q w (λ i. h (suc i)))
-difference_absolute_sum_lem (a ∷ p) [] (c ∷ w) h = absolute_sum_more a (pos 0) c (absolute_sum p) 0 (absolute_sum w) (h 0) (difference_absolute_sum_lem p [] w (λ i. h (suc i)))
-difference_absolute_sum_lem (a ∷ p) (b ∷ q) (c ∷ w) h = absolute_sum_more a b c (absolute_sum p) (absolute_sum q) (absolute_sum w) (h 0) (difference_absolute_sum_lem p q w (λ i. h (suc i)))
+difference_absolute_sum_lem [] [] (c ∷ w) h = absolute_sum_more (pos 0) (pos 0) c 0 0 (absolute_sum w) (h 0)
+    (difference_absolute_sum_lem [] [] w (λ i. h (suc i)))
+difference_absolute_sum_lem [] (b ∷ q) (c ∷ w) h = absolute_sum_more (pos 0) b c 0 (absolute_sum q) (absolute_sum w) (h 0)
+    (difference_absolute_sum_lem [] q w (λ i. h (suc i)))
+difference_absolute_sum_lem (a ∷ p) [] (c ∷ w) h = absolute_sum_more a (pos 0) c (absolute_sum p) 0 (absolute_sum w) (h 0)
+    (difference_absolute_sum_lem p [] w (λ i. h (suc i)))
+difference_absolute_sum_lem (a ∷ p) (b ∷ q) (c ∷ w) h = absolute_sum_more a b c (absolute_sum p) (absolute_sum q) (absolute_sum w) (h 0)
+    (difference_absolute_sum_lem p q w (λ i. h (suc i)))

@@ -20,14 +20,17 @@ MembersFit = (m S : ℕ) (vectors pivots : List (List ℤ)) (ks : List Member) �
 -- while there are two members, the value of one at a difference times an entry of another is below 2^126
 abbrev pub StepProductsFit : Type 0
 StepProductsFit = (m S : ℕ) (vectors pivots : List (List ℤ)) (ks : List Member) → 1 ≤ S → S ≤ safe_size m → ArePivots m vectors pivots ks
-    → All (λ v. absolute_sum v ≤ 2 * S) pivots → 2 ≤ length ks → (k l : Member) → Contains ks k → Contains ks l → IsPrimitive k.vector → IsPrimitive l.vector
+    → All (λ v. absolute_sum v ≤ 2 * S) pivots → 2 ≤ length ks → (k l : Member) → Contains ks k → Contains ks l → IsPrimitive k.vector
+    → IsPrimitive l.vector
     → (v : List ℤ) → absolute_sum v ≤ 2 * S → All (λ a. nat_abs (dot k.vector v *ℤ a) < 2 ^ 126) l.vector
 
 -- a function that is fixed by points has normal entries below 2^63, and a constant and values below 2^76
 abbrev pub FunctionsFit : Type 0
-FunctionsFit = (k S : ℕ) (points : List (List ℤ)) (f : Affine) → 1 ≤ S → S ≤ safe_size (suc k) → length points ≡ suc k → HaveDimension (suc k) points
+FunctionsFit = (k S : ℕ) (points : List (List ℤ)) (f : Affine) → 1 ≤ S → S ≤ safe_size (suc k) → length points ≡ suc k
+    → HaveDimension (suc k) points
     → All (λ p. absolute_sum p ≤ S) points → IsFixedBy (suc k) points f
-    → All (λ a. nat_abs a < 2 ^ 63) f.normal × (nat_abs f.constant < 2 ^ 76) × ((q : List ℤ) → absolute_sum q ≤ S → nat_abs (value f q) < 2 ^ 76)
+    → All (λ a. nat_abs a < 2 ^ 63) f.normal × (nat_abs f.constant < 2 ^ 76) × ((q : List ℤ) → absolute_sum q ≤ S
+    → nat_abs (value f q) < 2 ^ 76)
 
 -- a number as large as a value, times an entry of a normal, is below 2^126
 abbrev pub CombineProductsFit : Type 0

@@ -24,7 +24,8 @@ pub record CountsLatticePoints (n : ℕ) (points : List (List ℤ)) (limit count
   pub counted_is : counted ≡ min (length lattice) (limit + 1)
 
 -- an item's points that aren't flat
-pub item_solid : (points : List (List ℤ)) → AreItemPoints points → (IsFlat (dimension_of points) points → ⊥) → AreSolid (dimension_of points) points
+pub item_solid : (points : List (List ℤ)) → AreItemPoints points → (IsFlat (dimension_of points) points → ⊥)
+    → AreSolid (dimension_of points) points
 item_solid points h solid =
     let least = h.least in
     record { coordinates = omega (arith, least); dimension = h.sized.are_points.one_dimension; solid = solid }
@@ -43,11 +44,15 @@ module _ (n : ℕ) (points vertices : List (List ℤ)) (solid : AreSolid n point
       let bound = vertices_are_small_lem n points vertices are.members in
       let some = some_vertex_lem n points vertices solid are.members in
       record {
-        sized = record { are_points = record { some = some; one_dimension = rw first own.dimension }; within = rw first (omega (arith, bound, small)) };
+        sized = record {
+          are_points = record { some = some; one_dimension = rw first own.dimension };
+          within = rw first (omega (arith, bound, small));
+        };
         solid = rw first own.solid;
       }
 
-  pub vertices_facets : (facets : List Affine) → AreFacetsInAnyOrder n points facets → AreFacetsInAnyOrder (dimension_of vertices) vertices facets
+  pub vertices_facets : (facets : List Affine) → AreFacetsInAnyOrder n points facets
+      → AreFacetsInAnyOrder (dimension_of vertices) vertices facets
   vertices_facets facets fs = rw first (λ f.
       let same = facets_of_vertices_lem n points vertices solid are.members f in
       let listed = fs f in
@@ -106,7 +111,8 @@ module _ (n : ℕ) (points : List (List ℤ)) (facets : List Affine) (vertices :
         }
 
     -- the line of points with few lattice points
-    pub few_counted : (line : List ℕ) → counted ≤ 16384 → line ≡ body_line counted (length vertices) (length facets) → IsBodyLine n points line
+    pub few_counted : (line : List ℕ) → counted ≤ 16384 → line ≡ body_line counted (length vertices) (length facets)
+        → IsBodyLine n points line
     few_counted line few written =
         let e = counts.counted_is in
         let all : length counts.lattice ≡ counted = omega arith in

@@ -28,16 +28,20 @@ module _ (job : Job) (built : IsBuilt job) (item : Listed) (out : SinkState) whe
   no_piece = item_front (Says job) out out item 0 (item_nothing (Says job) out item)
 
   -- an item that stops
-  pub stopped_item : (fault : Fault) (told : ItemFault) → Stops (IsItemRefused item) fault → IsItemStop fault told → ItemMeans (Err told) job item out out
-  stopped_item (faults.Refused cause) told s e = subst (λ (t : ItemFault). ItemMeans (Err t) job item out out) (sym e) (refused_item cause s)
+  pub stopped_item : (fault : Fault) (told : ItemFault) → Stops (IsItemRefused item) fault → IsItemStop fault told
+      → ItemMeans (Err told) job item out out
+  stopped_item (faults.Refused cause) told s e = subst (λ (t : ItemFault). ItemMeans (Err t) job item out out) (sym e)
+      (refused_item cause s)
   stopped_item faults.NoMemory told s e = subst (λ (t : ItemFault). ItemMeans (Err t) job item out out) (sym e) no_piece
 
   module _ (piece : List ℕ) (is_piece : IsPiece item piece) (last : SinkState) (later : out.faults ≤ last.faults) where
     pub whole_item : Gains out last piece → GivesItem (Says job) item Whole out last
     whole_item g = item_closed (Says job) out last item 1
-        (item_piece (Says job) out out item 0 (item_nothing (Says job) out item) piece last (built_says job item 0 _ built (line is_piece)) g later)
+        (item_piece (Says job) out out item 0 (item_nothing (Says job) out item) piece last (built_says job item 0 _ built (line is_piece))
+        g later)
         Whole (built_says job item 1 _ built whole)
 
     pub part_of_item : GainsFront out last piece → GivesFront (Says job) (item ∷ []) out last
     part_of_item g =
-        item_part (Says job) out out item 0 (item_nothing (Says job) out item) piece last (built_says job item 0 _ built (line is_piece)) g later
+        item_part (Says job) out out item 0 (item_nothing (Says job) out item) piece last (built_says job item 0 _ built (line is_piece)) g
+        later

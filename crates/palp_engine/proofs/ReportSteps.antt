@@ -73,7 +73,8 @@ module _ (job : Job) (items : List Item) (place : ℕ) (first mid : SinkState) (
     part : GivesFront (Says job) (listed item ∷ []) mid last → GivesFront (Says job) (map listed items) first last
     part g =
         subst (λ (xs : List Listed). GivesFront (Says job) xs first last) (sym (listed_at items place item lt e))
-        (reported_part (Says job) first mid (map listed (take place items)) None so_far (listed item) last (map listed (drop (place + 1) items)) g)
+        (reported_part (Says job) first mid (map listed (take place items)) None so_far (listed item) last
+        (map listed (drop (place + 1) items)) g)
 
     -- an item whose report isn't given whole is the last one
     pub reported_fault : (ending : TextEnd) (fault : ItemFault) (outcome : Outcome) → IsStopped (place + 1) fault outcome

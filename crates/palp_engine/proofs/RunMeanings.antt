@@ -37,7 +37,8 @@ end_is (endings.Fault fault) e = cc
 end_is endings.TooLong e = cc
 
 -- the report of the items that were read is that of the words and the text
-module _ (job : Job) (source source_now : SourceState) (read : Reading) (reads : Reads (Ok read) source source_now) (out out_now : SinkState)
+module _ (job : Job) (source source_now : SourceState) (read : Reading) (reads : Reads (Ok read) source source_now)
+    (out out_now : SinkState)
     (words : List (List ℕ)) (built : AreBuilt words) (same : built.job ≡ job) where
   abbrev items : List Listed
   items = map listed read.items.items
@@ -78,7 +79,10 @@ module _ (job : Job) (source source_now : SourceState) (read : Reading) (reads :
   report_means : (outcome : Outcome) → ReportMeans job items (text_end read.ending) out out_now outcome
       → PerformedMeans words source source_now out out_now outcome
   report_means Done m =
-      record { reported = reported Done m; has_ended = reads.means.whole (end_is read.ending (end_alone m.stop (text_end read.ending) m.outcome_is)) }
+      record {
+        reported = reported Done m;
+        has_ended = reads.means.whole (end_is read.ending (end_alone m.stop (text_end read.ending) m.outcome_is));
+      }
   report_means (BadText fault) m = reported (BadText fault) m
   report_means (Refused item cause) m = reported (Refused item cause) m
   report_means TextLimit m = reported TextLimit m
@@ -97,19 +101,22 @@ report_performs job source source_now out out_now read outcome r m = record {
 }
 
 -- nothing was given
-nothing_in_part : (words : List (List ℕ)) (source source_now : SourceState) (out : SinkState) (text : List ℕ) → IsText source source_now text
+nothing_in_part : (words : List (List ℕ)) (source source_now : SourceState) (out : SinkState) (text : List ℕ)
+    → IsText source source_now text
     → IsReportedInPart words source source_now out out
 nothing_in_part words source source_now out text t =
     record { text = text; is_text = t; front = []; is_front = no_front; gives = gives_nothing out }
 
-pub nothing_performed : (job : Job) (source source_now : SourceState) (out : SinkState) → Reads (Err reading_faults.NoMemory) source source_now
+pub nothing_performed : (job : Job) (source source_now : SourceState) (out : SinkState)
+    → Reads (Err reading_faults.NoMemory) source source_now
     → IsPerformed job source source_now out out NoMemory
 nothing_performed job source source_now out r = record {
   taken = (r.is_text.bytes, r.is_text.have_passed);
   means = λ words built same. nothing_in_part words source source_now out r.text r.is_text;
 }
 
-pub read_fault_performed : (job : Job) (source source_now : SourceState) (out : SinkState) → Reads (Err reading_faults.Source) source source_now
+pub read_fault_performed : (job : Job) (source source_now : SourceState) (out : SinkState)
+    → Reads (Err reading_faults.Source) source source_now
     → IsPerformed job source source_now out out ReadFault
 read_fault_performed job source source_now out r = record {
   taken = (r.is_text.bytes, r.is_text.have_passed);

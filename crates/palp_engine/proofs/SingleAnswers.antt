@@ -27,7 +27,12 @@ one_line n points line other l m =
 
 -- points with a flat function are flat
 flat_from_function : (n : ℕ) (points : List (List ℤ)) (f : Affine) → IsFlatFunction n points f → IsFlat n points
-flat_from_function n points f h = record { function = f; dimension = h.dimension; nonconstant = (h.place, h.ends.nonzero); vanishes = h.vanishes }
+flat_from_function n points f h = record {
+  function = f;
+  dimension = h.dimension;
+  nonconstant = (h.place, h.ends.nonzero);
+  vanishes = h.vanishes;
+}
 
 -- what is refused at one step has passed the steps before
 flat_or_solid : (n : ℕ) (points : List (List ℤ)) (f : Affine) → IsFlatFunction n points f → (IsFlat n points → ⊥) → ⊥
@@ -58,12 +63,14 @@ same_vertices n told other points a b =
     a.count ∙ (ap length (lists_unique LexLess lex_asymmetric _ _ _ a.are_vertices b.are_vertices) ∙ sym b.count)
 
 pub one_refusal : OneRefusal
-one_refusal n points _ _ some (flat {f = f} a) (flat {f = g} b) = let p = first_point points some in ap Flat (flat_function_unique n points p.0 f g p.1 a b)
+one_refusal n points _ _ some (flat {f = f} a) (flat {f = g} b) = let p = first_point points some in
+    ap Flat (flat_function_unique n points p.0 f g p.1 a b)
 one_refusal n points _ _ some (flat {f = f} a) (many_facets y b) = absurd (flat_or_solid n points f a y)
 one_refusal n points _ _ some (flat {f = f} a) (many_vertices y b) = absurd (flat_or_solid n points f a y.solid)
 one_refusal n points _ _ some (flat {f = f} a) (many_points b) = absurd (flat_or_solid n points f a b.polytope.faces.solid)
 one_refusal n points _ _ some (many_facets x a) (flat {f = g} b) = absurd (flat_or_solid n points g b x)
-one_refusal n points _ _ some (many_facets {told = told} x a) (many_facets {told = other} y b) = ap (Limit Facets) (same_facets n told other points a b)
+one_refusal n points _ _ some (many_facets {told = told} x a) (many_facets {told = other} y b) =
+    ap (Limit Facets) (same_facets n told other points a b)
 one_refusal n points _ _ some (many_facets {told = told} x a) (many_vertices y b) = absurd (many_or_few_facets n told points a y)
 one_refusal n points _ _ some (many_facets {told = told} x a) (many_points b) = absurd (many_or_few_facets n told points a b.polytope.faces)
 one_refusal n points _ _ some (many_vertices x a) (flat {f = g} b) = absurd (flat_or_solid n points g b x.solid)
@@ -72,7 +79,8 @@ one_refusal n points _ _ some (many_vertices {told = told} x a) (many_vertices {
     ap (Limit Vertices) (same_vertices n told other points a b)
 one_refusal n points _ _ some (many_vertices {told = told} x a) (many_points b) = absurd (many_or_few_vertices n told points a b.polytope)
 one_refusal n points _ _ some (many_points a) (flat {f = g} b) = absurd (flat_or_solid n points g b a.polytope.faces.solid)
-one_refusal n points _ _ some (many_points a) (many_facets {told = other} y b) = absurd (many_or_few_facets n other points b a.polytope.faces)
+one_refusal n points _ _ some (many_points a) (many_facets {told = other} y b) =
+    absurd (many_or_few_facets n other points b a.polytope.faces)
 one_refusal n points _ _ some (many_points a) (many_vertices {told = other} y b) = absurd (many_or_few_vertices n other points b a.polytope)
 one_refusal n points _ _ some (many_points a) (many_points b) = ap (Limit Points) (a.told_is ∙ sym b.told_is)
 

@@ -51,7 +51,8 @@ module _ (words : List (List ℕ)) where
 
 module _ (words : List (List ℕ)) (text : List ℕ) where
   -- what is said of the items under one job is said under the other
-  moved_report : (b c : AreBuilt words) (report : List (List ℕ)) (stop : _) → IsListReport (Says c.job) 1 0 (read_text text).items report stop
+  moved_report : (b c : AreBuilt words) (report : List (List ℕ)) (stop : _)
+      → IsListReport (Says c.job) 1 0 (read_text text).items report stop
       → IsListReport (Says b.job) 1 0 (read_text text).items report stop
   moved_report b c report stop r =
       subst (λ (j : Job). IsListReport (Says j) 1 0 (read_text text).items report stop) (same_job words c.job b.job c.gives b.gives) r
@@ -79,7 +80,8 @@ module _ (words : List (List ℕ)) (text : List ℕ) where
   fronts_of _ _ _ (front_of_items b i) (of_unbuilt u) = built_or_unbuilt words b u
   fronts_of _ _ _ (front_of_items b i) (of_bad_words {fault = f} e) = job_or_fault words b.job f b.gives e
 
-  empty_of : (front report : List (List ℕ)) (outcome : Outcome) → report ≡ [] → IsFront words text front → HaveReport words text report outcome
+  empty_of : (front report : List (List ℕ)) (outcome : Outcome) → report ≡ [] → IsFront words text front
+      → HaveReport words text report outcome
       → front ≡ []
   empty_of _ report outcome n no_front r = refl
   empty_of _ _ _ n (front_of_items {front = f} b i) (of_items {report = q} {stop = t} c u) =

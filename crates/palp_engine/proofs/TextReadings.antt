@@ -77,27 +77,38 @@ read_nothing source reader items r i = subst (λ (s : ReaderState). ReadSoFar so
     }))
 
 -- the bytes passed and held are those that were taken
-more_count : (before held now left taken end all : ℕ) → before + held ≡ taken → end ≤ held + all → now ≡ before + end → left ≡ held + all - end
+more_count : (before held now left taken end all : ℕ) → before + held ≡ taken → end ≤ held + all → now ≡ before + end
+    → left ≡ held + all - end
     → now + left ≡ taken + all
 more_count before held now left taken end all h le n l = omega arith
 
-count_more : (before now : ReaderState) (bytes so_far : List ℕ) (end : ℕ) → before.bytes + length before.held ≡ length so_far → end ≤ length (before.held ++ bytes)
-    → now ≡ record { bytes = before.bytes + end; lines = before.lines + line_feeds (take end (before.held ++ bytes)); held = drop end (before.held ++ bytes); live = true; ended = now.ended }
+count_more : (before now : ReaderState) (bytes so_far : List ℕ) (end : ℕ) → before.bytes + length before.held ≡ length so_far
+    → end ≤ length (before.held ++ bytes)
+    → now ≡ record {
+      bytes = before.bytes + end;
+      lines = before.lines + line_feeds (take end (before.held ++ bytes));
+      held = drop end (before.held ++ bytes);
+      live = true;
+      ended = now.ended;
+    }
     → now.bytes + length now.held ≡ length (so_far ++ bytes)
 count_more before now bytes so_far end h le parts =
     let both = length-append before.held bytes in
     let less = ap (λ (s : ReaderState). length s.held) parts ∙ length-drop end (before.held ++ bytes) ∙ ap (λ (n : ℕ). n - end) both in
-    more_count before.bytes (length before.held) now.bytes (length now.held) (length so_far) end (length bytes) h (subst (λ (n : ℕ). end ≤ n) both le)
+    more_count before.bytes (length before.held) now.bytes (length now.held) (length so_far) end (length bytes) h
+    (subst (λ (n : ℕ). end ≤ n) both le)
     (ap (λ (s : ReaderState). s.bytes) parts) less ∙ sym (length-append so_far bytes)
 
 -- one more item
-listed_more : (items : List Item) (item : Item) (more : TextRead) → map listed items ++ listed item ∷ more.items ≡ map listed (items ++ item ∷ []) ++ more.items
+listed_more : (items : List Item) (item : Item) (more : TextRead)
+    → map listed items ++ listed item ∷ more.items ≡ map listed (items ++ item ∷ []) ++ more.items
 listed_more items item more =
     sym (append_assoc (map listed items) (listed item ∷ []) more.items)
     ∙ ap (λ (xs : List _). xs ++ more.items) (sym (map-append listed items (item ∷ [])))
 
 reads_more : (text : List ℕ) (left left_now : Option (List ℕ)) (reader now : ReaderState) (items : List Item) (item : Item) (more : List ℕ)
-    → (read_text text).items ≡ map listed items ++ (reading_of reader more).items → (read_text text).ending ≡ (reading_of reader more).ending
+    → (read_text text).items ≡ map listed items ++ (reading_of reader more).items
+    → (read_text text).ending ≡ (reading_of reader more).ending
     → ReadsItem reader now more left_now item → ReadsOn text left_now now (items ++ item ∷ [])
 reads_more text left left_now reader now items item more i e r = record {
   more = r.more;
@@ -125,13 +136,15 @@ module _ (source middle last : SourceState) (before now : ReaderState) (items : 
   taken_more : (item : Item) (bytes more : List ℕ) → Continues (so_far.bytes ++ (bytes ++ more)) (bytes ++ more) before items
       → reading_of before (bytes ++ more) ≡ with_item (listed item) now.bytes (reading_of now more)
       → Continues ((so_far.bytes ++ bytes) ++ more) more now (items ++ item ∷ [])
-  taken_more item bytes more h e = subst (λ (xs : List ℕ). Continues xs more now (items ++ item ∷ [])) (sym (append_assoc so_far.bytes bytes more)) (record {
-    items_are = h.items_are ∙ ap (λ (t : TextRead). map listed items ++ t.items) e ∙ listed_more items item (reading_of now more);
-    ending_is = h.ending_is ∙ ap (λ (t : TextRead). t.ending) e;
-  })
+  taken_more item bytes more h e = subst (λ (xs : List ℕ). Continues xs more now (items ++ item ∷ []))
+      (sym (append_assoc so_far.bytes bytes more)) (record {
+        items_are = h.items_are ∙ ap (λ (t : TextRead). map listed items ++ t.items) e ∙ listed_more items item (reading_of now more);
+        ending_is = h.ending_is ∙ ap (λ (t : TextRead). t.ending) e;
+      })
 
   -- nothing comes behind bytes of which the last were taken at the end
-  none_behind : (bytes more : List ℕ) → (before.ended ≡ true → bytes ≡ []) → (before.ended ≡ true → now.ended ≡ true) → (now.ended ≡ true → more ≡ [])
+  none_behind : (bytes more : List ℕ) → (before.ended ≡ true → bytes ≡ []) → (before.ended ≡ true → now.ended ≡ true)
+      → (now.ended ≡ true → more ≡ [])
       → before.ended ≡ true → bytes ++ more ≡ []
   none_behind bytes more nothing keeps none e = ap (λ (xs : List ℕ). xs ++ more) (nothing e) ∙ none (keeps e)
 
@@ -153,7 +166,8 @@ module _ (source middle last : SourceState) (before now : ReaderState) (items : 
         (items_are_items (before.held ++ m.bytes) (listed item) m.answer.end m.answer.is_first);
   })
     where
-      reads : (l : Option (List ℕ)) → IfSome l (λ text. ReadsOn text middle.left before items) → IfSome l (λ text. ReadsOn text last.left now (items ++ item ∷ []))
+      reads : (l : Option (List ℕ)) → IfSome l (λ text. ReadsOn text middle.left before items)
+          → IfSome l (λ text. ReadsOn text last.left now (items ++ item ∷ []))
       reads None r = tt
       reads (Some text) r = reads_more text middle.left last.left before now items item r.more r.items_are r.ending_is
           (calls_read (Ok (Some item)) before now r.more middle last r.told m)
@@ -166,7 +180,8 @@ passes_more before now bytes source item g =
     omega (arith, g.some, g.most, passed)
 
 -- a reading that ends behind the items read so far
-ends_items : (items : List Item) (ending : TextEnd) (all : List _) (more : TextRead) → all ≡ map listed items ++ more.items → more ≡ no_more ending
+ends_items : (items : List Item) (ending : TextEnd) (all : List _) (more : TextRead) → all ≡ map listed items ++ more.items
+    → more ≡ no_more ending
     → all ≡ map listed items
 ends_items items ending all more i e = i ∙ ap (λ (t : TextRead). map listed items ++ t.items) e ∙ append-nil (map listed items)
 
@@ -188,8 +203,10 @@ module _ (source middle last : SourceState) (reader now : ReaderState) (items : 
       → ((read_text (text_of l all)).items ≡ map listed items) × ((read_text (text_of l all)).ending ≡ ending)
   reads_none ending all f h None r = h
   reads_none ending all f h (Some text) r =
-      let last = f r.more r.told in
-      (ends_items items ending (read_text text).items (reading_of reader r.more) r.items_are last, r.ending_is ∙ ap (λ (t : TextRead). t.ending) last)
+      let last = f r.more r.told in (
+        ends_items items ending (read_text text).items (reading_of reader r.more) r.items_are last,
+        r.ending_is ∙ ap (λ (t : TextRead). t.ending) last,
+      )
 
   is_reading : (ending : Ending) (bytes : List ℕ) → (reader.ended ≡ true → bytes ≡ []) → reading_of reader bytes ≡ no_more (text_end ending)
       → ((more : List ℕ) → middle.left ≡ Some more → reading_of reader more ≡ no_more (text_end ending))
@@ -204,7 +221,8 @@ module _ (source middle last : SourceState) (reader now : ReaderState) (items : 
   abbrev Reading_to : List ℕ → Ending → Type 0
   Reading_to bytes ending = IsReading last (text_of source.left (so_far.bytes ++ bytes)) items ending
 
-  read_ends : (result : Result (Option Item) NextFault) (ending : Ending) → EndsAs result ending → (m : NextMeans result reader now middle last)
+  read_ends : (result : Result (Option Item) NextFault) (ending : Ending) → EndsAs result ending
+      → (m : NextMeans result reader now middle last)
       → Reading_to m.bytes ending
   read_ends (Ok None) ending e m = subst (λ (x : Ending). Reading_to m.bytes x) (sym e)
       (is_reading endings.End m.bytes (λ e. (m.untaken e).nothing) (calls_read_taken (Ok None) reader now middle last m)
@@ -222,7 +240,11 @@ module _ (source middle last : SourceState) (reader now : ReaderState) (items : 
   is_text : (result : Result (Option Item) NextFault) (m : NextMeans result reader now middle last)
       → IsText source last (text_of source.left (so_far.bytes ++ m.bytes))
   is_text result m =
-      record { bytes = so_far.bytes ++ m.bytes; have_passed = taken_in_all source middle last reader now items so_far result m; text_is = refl }
+      record {
+        bytes = so_far.bytes ++ m.bytes;
+        have_passed = taken_in_all source middle last reader now items so_far result m;
+        text_is = refl;
+      }
 
   -- a reading that ends
   pub reads_end : (result : Result (Option Item) NextFault) (read : Reading) → read.items.items ≡ items → EndsAs result read.ending

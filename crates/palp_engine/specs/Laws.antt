@@ -19,7 +19,8 @@ OneLine = (n : ℕ) (points : List (List ℤ)) (line other : List ℕ) → IsBod
 
 -- points, if there is one, are refused for no two causes
 abbrev pub OneRefusal : Type 0
-OneRefusal = (n : ℕ) (points : List (List ℤ)) (cause other : Refusal) → 0 < length points → IsRefused n points cause → IsRefused n points other
+OneRefusal = (n : ℕ) (points : List (List ℤ)) (cause other : Refusal) → 0 < length points → IsRefused n points cause
+    → IsRefused n points other
     → cause ≡ other
 
 -- points that have a body line aren't refused
@@ -55,4 +56,5 @@ FrontsAreFronts = (words : List (List ℕ)) (text : List ℕ) (front report : Li
 
 -- an empty report has no front but nothing
 abbrev pub EmptyFront : Type 0
-EmptyFront = (words : List (List ℕ)) (text : List ℕ) (front : List (List ℕ)) → IsFront words text front → IsReport words text [] → front ≡ []
+EmptyFront = (words : List (List ℕ)) (text : List ℕ) (front : List (List ℕ)) → IsFront words text front → IsReport words text []
+    → front ≡ []

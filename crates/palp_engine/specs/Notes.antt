@@ -65,9 +65,11 @@ text_kind_name texts.BadByte = codes "BadByte"
 abbrev pub note_line : Outcome → Option (List ℕ)
 note_line Done = None
 note_line (Refused item cause) = Some (codes "palp: item " ++ (decimal item ++ (codes ": " ++ (refusal_text cause ++ codes "\n"))))
-note_line (BadWords fault) = Some (codes "palp: word " ++ (decimal fault.index ++ (codes ": " ++ (word_kind_name fault.kind ++ codes "\n"))))
+note_line (BadWords fault) = Some
+    (codes "palp: word " ++ (decimal fault.index ++ (codes ": " ++ (word_kind_name fault.kind ++ codes "\n"))))
 note_line (BadText fault) =
-    Some (codes "palp: line " ++ (decimal fault.line ++ (codes " column " ++ (decimal fault.column ++ (codes ": " ++ (text_kind_name fault.kind ++ codes "\n"))))))
+    Some (codes "palp: line " ++ (decimal fault.line
+    ++ (codes " column " ++ (decimal fault.column ++ (codes ": " ++ (text_kind_name fault.kind ++ codes "\n"))))))
 note_line TextLimit = Some (codes "palp: text limit\n")
 note_line NotBuilt = Some (codes "palp: not built\n")
 note_line ReadFault = Some (codes "palp: read fault\n")

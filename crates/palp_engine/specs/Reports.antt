@@ -47,7 +47,8 @@ pub record HaveManyPoints (n : ℕ) (points : List (List ℤ)) (told : ℕ) : Ty
   pub many : MOST_POINTS < length lattice
   pub told_is : told ≡ MOST_POINTS + 1
 
--- why points within the size limit are refused: they are flat, or have too many facets, vertices or lattice points. Each is asked where those
+-- why points within the size limit are refused: they are flat, or have too many facets, vertices or lattice points. Each is asked where
+-- those
 -- before it hold.
 pub data IsRefused (n : ℕ) (points : List (List ℤ)) : Refusal → Type 0 where
   flat : {f : Affine} → IsFlatFunction n points f → IsRefused n points (Flat f)

@@ -43,7 +43,8 @@ IsStopped number faults.NoMemory outcome = outcome ≡ NoMemory
 abbrev pub PerformedMeans : List (List ℕ) → SourceState → SourceState → SinkState → SinkState → Outcome → Type 0
 PerformedMeans words source source_now out out_now Done = IsDone words source source_now out out_now
 PerformedMeans words source source_now out out_now (BadText fault) = IsReported words source source_now out out_now (BadText fault)
-PerformedMeans words source source_now out out_now (Refused item cause) = IsReported words source source_now out out_now (Refused item cause)
+PerformedMeans words source source_now out out_now (Refused item cause) =
+    IsReported words source source_now out out_now (Refused item cause)
 PerformedMeans words source source_now out out_now TextLimit = IsReported words source source_now out out_now TextLimit
 PerformedMeans words source source_now out out_now ReadFault = HasReadFault words source source_now out out_now
 PerformedMeans words source source_now out out_now WriteFault = HasWriteFault words source source_now out out_now
@@ -53,7 +54,8 @@ PerformedMeans words source source_now out out_now other = ⊥
 -- the job was done, whatever words give it
 pub record IsPerformed (job : Job) (source source_now : SourceState) (out out_now : SinkState) (outcome : Outcome) : Type 0 where
   pub taken : HasTaken source source_now
-  pub means : (words : List (List ℕ)) (built : AreBuilt words) → built.job ≡ job → PerformedMeans words source source_now out out_now outcome
+  pub means : (words : List (List ℕ)) (built : AreBuilt words) → built.job ≡ job
+      → PerformedMeans words source source_now out out_now outcome
 
 -- what each outcome means
 abbrev pub AnswerMeans : List (List ℕ) → SourceState → SourceState → SinkState → SinkState → Outcome → Type 0

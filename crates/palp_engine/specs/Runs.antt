@@ -54,12 +54,14 @@ pub record IsReportedInPart (words : List (List ℕ)) (source source_now : Sourc
   pub gives : GivesPieces out out_now front
 
 -- the outcome tells a fault of the words exactly where they have it, and then the streams are as they were
-pub record TellsBadWords (words : List (List ℕ)) (outcome : Outcome) (source source_now : SourceState) (out out_now : SinkState) : Type 0 where
+pub record TellsBadWords (words : List (List ℕ)) (outcome : Outcome) (source source_now : SourceState) (out out_now : SinkState) : Type
+    0 where
   pub exactly : (fault : WordFault) → (outcome ≡ BadWords fault) ↔ (words_of words ≡ Err fault)
   pub untouched : (fault : WordFault) → words_of words ≡ Err fault → AreUntouched source source_now out out_now
 
 -- the outcome tells that the job isn't built exactly where the words give such a one, and then the streams are as they were
-pub record TellsNotBuilt (words : List (List ℕ)) (outcome : Outcome) (source source_now : SourceState) (out out_now : SinkState) : Type 0 where
+pub record TellsNotBuilt (words : List (List ℕ)) (outcome : Outcome) (source source_now : SourceState) (out out_now : SinkState) : Type
+    0 where
   pub exactly : (outcome ≡ NotBuilt) ↔ AreUnbuilt words
   pub untouched : AreUnbuilt words → AreUntouched source source_now out out_now
 

@@ -12,7 +12,8 @@ use Rattle.palp_engine.specs.Commands.{Says}
 use Rattle.palp_engine.specs.declared.session.ItemFault.{ItemFault}
 use Rattle.palp_engine.specs.declared.session.ItemFault.TheVariants as faults
 
--- what the answer for an item means: all its pieces were appended, and it isn't refused, or this is its first refusal; or, where the count of
+-- what the answer for an item means: all its pieces were appended, and it isn't refused, or this is its first refusal; or, where the count
+-- of
 -- faults rose or memory was wanting, a front of its pieces was appended
 abbrev pub ItemMeans : Result (Unit {0}) ItemFault → Job → Listed → SinkState → SinkState → Type 0
 ItemMeans (Ok done) job item before now = GivesItem (Says job) item Whole before now

@@ -35,7 +35,8 @@ gives_piece s m piece g later =
     record { appended = subst (Gains s m) (sym (append-nil piece)) g; later = later; nothing = λ e. absurd (cc) }
 
 -- the pieces of two stretches of calls
-pub gives_both : (s m n : SinkState) (pieces more : List (List ℕ)) → GivesPieces s m pieces → GivesPieces m n more → GivesPieces s n (pieces ++ more)
+pub gives_both : (s m n : SinkState) (pieces more : List (List ℕ)) → GivesPieces s m pieces → GivesPieces m n more
+    → GivesPieces s n (pieces ++ more)
 gives_both s m n pieces more a b = record {
   appended = subst (Gains s n) (sym (concat-append pieces more)) (Gains-trans s m n (concat pieces) (concat more) a.appended b.appended);
   later = in_order s.faults m.faults n.faults a.later b.later;
@@ -49,7 +50,8 @@ pub record ItemSoFar {X R : Type 0} (says : X → ℕ → Step R → Type 0) (it
   pub gives : GivesPieces first now pieces
 
 -- the pieces of these items were given, and with them there is this first refusal
-pub record ReportedSoFar {X R : Type 0} (says : X → ℕ → Step R → Type 0) (seen : List X) (stop : Option (Stop R)) (first now : SinkState) : Type 0 where
+pub record ReportedSoFar {X R : Type 0} (says : X → ℕ → Step R → Type 0) (seen : List X) (stop : Option (Stop R))
+    (first now : SinkState) : Type 0 where
   pub pieces : List (List ℕ)
   pub passed : Passed says seen pieces stop
   pub gives : GivesPieces first now pieces
@@ -96,7 +98,11 @@ module _ {X R : Type 0} (says : X → ℕ → Step R → Type 0) (first : SinkSt
     module _ (seen : List X) (stop : Option (Stop R)) (so_far : ReportedSoFar says seen stop first now) where
       -- all pieces so far are the report of the items so far
       pub reported_all : GivesReport says seen stop first now
-      reported_all = record { report = so_far.pieces; is_report = passed_all says seen so_far.pieces stop so_far.passed; gives = so_far.gives }
+      reported_all = record {
+        report = so_far.pieces;
+        is_report = passed_all says seen so_far.pieces stop so_far.passed;
+        gives = so_far.gives;
+      }
 
       module _ (item : X) (last : SinkState) where
         -- one more item, behind which the next one follows

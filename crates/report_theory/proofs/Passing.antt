@@ -18,14 +18,17 @@ with_closing number (Continues cause) later = stop_at number cause
 
 -- So many pieces of an item, and these, were passed: what follows them is the rest of its pieces, or a front of it.
 pub record Begun {X R : Type 0} (says : X → ℕ → Step R → Type 0) (item : X) (k : ℕ) (begin : List (List ℕ)) : Type 0 where
-  pub goes_on : (later : List (List ℕ)) (closing : Closing R) → ArePieces says k item later closing → ArePieces says 0 item (begin ++ later) closing
+  pub goes_on : (later : List (List ℕ)) (closing : Closing R) → ArePieces says k item later closing
+      → ArePieces says 0 item (begin ++ later) closing
   pub front_on : (later : List (List ℕ)) → IsListFront says k (item ∷ []) later → IsListFront says 0 (item ∷ []) (begin ++ later)
 
 -- These items and their pieces were passed, with this first refusal: what follows is the report of the items behind them, or a front of it.
-pub record Passed {X R : Type 0} (says : X → ℕ → Step R → Type 0) (seen : List X) (begin : List (List ℕ)) (first : Option (Stop R)) : Type 0 where
+pub record Passed {X R : Type 0} (says : X → ℕ → Step R → Type 0) (seen : List X) (begin : List (List ℕ)) (first : Option (Stop R)) : Type
+    0 where
   pub goes_on : (behind : List X) (later : List (List ℕ)) (stop : Option (Stop R)) → IsListReport says (length seen + 1) 0 behind later stop
       → IsListReport says 1 0 (seen ++ behind) (begin ++ later) (first_stop first stop)
-  pub front_on : (behind : List X) (later : List (List ℕ)) → IsListFront says 0 behind later → IsListFront says 0 (seen ++ behind) (begin ++ later)
+  pub front_on : (behind : List X) (later : List (List ℕ)) → IsListFront says 0 behind later
+      → IsListFront says 0 (seen ++ behind) (begin ++ later)
 
 one_longer : {X : Type 0} (seen : List X) (item : X) → length (seen ++ item ∷ []) + 1 ≡ (length seen + 1) + 1
 one_longer seen item = let e = length-append seen (item ∷ []) in omega (arith, e)
@@ -69,14 +72,16 @@ module _ {X R : Type 0} (says : X → ℕ → Step R → Type 0) where
   item_ends number k item items cause _ (one_more {later = rest} a p) = next_piece a (item_ends number (k + 1) item items cause rest p)
   item_ends number k item items cause _ (no_more a) = last_item a
 
-  item_then_front : (k : ℕ) (item : X) (items : List X) (closing : Closing R) (own later : List (List ℕ)) → ArePieces says k item own closing
+  item_then_front : (k : ℕ) (item : X) (items : List X) (closing : Closing R) (own later : List (List ℕ))
+      → ArePieces says k item own closing
       → IsFollowed closing → IsListFront says 0 items later → IsListFront says k (item ∷ items) (own ++ later)
   item_then_front k item items closing _ later (one_more {later = rest} a p) on f =
       front_piece a (item_then_front (k + 1) item items closing rest later p on f)
   item_then_front k item items closing _ later (no_more a) on f = front_item a on f
 
   -- whatever items follow, a front stays one
-  front_of_more : (k : ℕ) (items more : List X) (begin : List (List ℕ)) → IsListFront says k items begin → IsListFront says k (items ++ more) begin
+  front_of_more : (k : ℕ) (items more : List X) (begin : List (List ℕ)) → IsListFront says k items begin
+      → IsListFront says k (items ++ more) begin
   front_of_more k items more _ nothing = nothing
   front_of_more _ _ more _ (front_part a is) = front_part a is
   front_of_more _ _ more _ (front_piece {k = k} {item = item} {items = items} {later = later} a f) =
@@ -108,7 +113,8 @@ module _ {X R : Type 0} (says : X → ℕ → Step R → Type 0) where
   module _ (item : X) (k : ℕ) (begin : List (List ℕ)) (so_far : Begun says item k begin) where
     pub begun_piece : (bytes : List ℕ) → says item k (Piece bytes) → Begun says item (k + 1) (begin ++ bytes ∷ [])
     begun_piece bytes a = record {
-      goes_on = λ later closing p. subst (λ (xs : List (List ℕ)). ArePieces says 0 item xs closing) (sym (append_assoc begin (bytes ∷ []) later))
+      goes_on = λ later closing p. subst (λ (xs : List (List ℕ)). ArePieces says 0 item xs closing)
+          (sym (append_assoc begin (bytes ∷ []) later))
           (so_far.goes_on (bytes ∷ later) closing (one_more a p));
       front_on = λ later f. subst (λ (xs : List (List ℕ)). IsListFront says 0 (item ∷ []) xs) (sym (append_assoc begin (bytes ∷ []) later))
           (so_far.front_on (bytes ∷ later) (front_piece a f));
@@ -123,7 +129,8 @@ module _ {X R : Type 0} (says : X → ℕ → Step R → Type 0) where
     begun_front = subst (λ (xs : List (List ℕ)). IsListFront says 0 (item ∷ []) xs) (append-nil begin) (so_far.front_on [] nothing)
 
     -- and one whose give failed
-    pub begun_part : (bytes part : List ℕ) → says item k (Piece bytes) → IsPrefix part bytes → IsListFront says 0 (item ∷ []) (begin ++ part ∷ [])
+    pub begun_part : (bytes part : List ℕ) → says item k (Piece bytes) → IsPrefix part bytes
+        → IsListFront says 0 (item ∷ []) (begin ++ part ∷ [])
     begun_part bytes part a is = so_far.front_on (part ∷ []) (front_part a is)
 
   -- from item to item
@@ -136,7 +143,8 @@ module _ {X R : Type 0} (says : X → ℕ → Step R → Type 0) where
         → Passed says (seen ++ item ∷ []) (begin ++ own) (first_stop first (with_closing (length seen + 1) closing None))
     passed_item item own closing p on = record {
       goes_on = λ behind later stop r.
-          let after : IsListReport says 1 0 (seen ++ item ∷ behind) (begin ++ (own ++ later)) (first_stop first (with_closing (length seen + 1) closing stop)) =
+          let after : IsListReport says 1 0 (seen ++ item ∷ behind) (begin ++ (own ++ later))
+          (first_stop first (with_closing (length seen + 1) closing stop)) =
           so_far.goes_on (item ∷ behind) (own ++ later) (with_closing (length seen + 1) closing stop)
           (item_in_front (length seen + 1) 0 item behind closing own later stop p on
           (subst (λ (n : ℕ). IsListReport says n 0 behind later stop) (one_longer seen item) r)) in

@@ -9,7 +9,8 @@ use Rattle.report_theory.specs.Report.{one_more, no_more, no_item, next_piece, n
 
 part_is : (part rest whole behind : List ℕ) → whole ≡ part ++ rest → whole ++ behind ≡ (part ++ []) ++ (rest ++ behind)
 part_is part rest whole behind e =
-    ap (λ (xs : List ℕ). xs ++ behind) e ∙ (append_assoc part rest behind ∙ ap (λ (xs : List ℕ). xs ++ (rest ++ behind)) (sym (append-nil part)))
+    ap (λ (xs : List ℕ). xs ++ behind) e
+    ∙ (append_assoc part rest behind ∙ ap (λ (xs : List ℕ). xs ++ (rest ++ behind)) (sym (append-nil part)))
 
 joined_is : (p q l m rest : List ℕ) → p ≡ q → m ≡ l ++ rest → q ++ m ≡ (p ++ l) ++ rest
 joined_is p q l m rest e f = ap (λ (xs : List ℕ). xs ++ m) (sym e) ∙ (ap (λ (xs : List ℕ). p ++ xs) f ∙ sym (append_assoc p l rest))
@@ -27,7 +28,8 @@ module _ {X R : Type 0} (says : X → ℕ → Step R → Type 0) (one : SaysOne 
   same_end : (item : X) (k : ℕ) (cause other : R) → says item k (Close (Ends cause)) → says item k (Close (Ends other)) → cause ≡ other
   same_end item k cause other a b = let e = same_closing item k (Ends cause) (Ends other) a b in cc
 
-  same_refusal : (item : X) (k : ℕ) (cause other : R) → says item k (Close (Continues cause)) → says item k (Close (Continues other)) → cause ≡ other
+  same_refusal : (item : X) (k : ℕ) (cause other : R) → says item k (Close (Continues cause)) → says item k (Close (Continues other))
+      → cause ≡ other
   same_refusal item k cause other a b = let e = same_closing item k (Continues cause) (Continues other) a b in cc
 
   -- an item has a further piece, or its pieces end, in one way
@@ -38,7 +40,8 @@ module _ {X R : Type 0} (says : X → ℕ → Step R → Type 0) (one : SaysOne 
   pub end_or_whole : {Z : Type 0} (item : X) (k : ℕ) (cause : R) → says item k (Close (Ends cause)) → says item k (Close Whole) → Z
   end_or_whole item k cause a b = absurd (let e = same_closing item k (Ends cause) Whole a b in cc)
 
-  pub continue_or_whole : {Z : Type 0} (item : X) (k : ℕ) (cause : R) → says item k (Close (Continues cause)) → says item k (Close Whole) → Z
+  pub continue_or_whole : {Z : Type 0} (item : X) (k : ℕ) (cause : R) → says item k (Close (Continues cause)) → says item k (Close Whole)
+      → Z
   continue_or_whole item k cause a b = absurd (let e = same_closing item k (Continues cause) Whole a b in cc)
 
   end_or_continue : {Z : Type 0} (item : X) (k : ℕ) (cause other : R)
@@ -64,7 +67,8 @@ module _ {X R : Type 0} (says : X → ℕ → Step R → Type 0) (one : SaysOne 
       let behind = one_report n (k + 1) (item ∷ items) l m s t r u in
       (joined p q l m (same_piece item k p q a b) behind.0, behind.1)
   one_report _ _ _ _ _ _ _ (next_piece {k = k} {item = item} {bytes = p} a r) (next_item b u) = piece_or_close item k p Whole a b
-  one_report _ _ _ _ _ _ _ (next_piece {k = k} {item = item} {bytes = p} a r) (last_item {cause = c} b) = piece_or_close item k p (Ends c) a b
+  one_report _ _ _ _ _ _ _ (next_piece {k = k} {item = item} {bytes = p} a r) (last_item {cause = c} b) =
+      piece_or_close item k p (Ends c) a b
   one_report _ _ _ _ _ _ _ (next_piece {k = k} {item = item} {bytes = p} a r) (refused_item {cause = c} b u) =
       piece_or_close item k p (Continues c) a b
   one_report _ _ _ _ _ _ _ (next_item {k = k} {item = item} a r) (next_piece {bytes = q} b u) = piece_or_close item k q Whole b a
@@ -72,7 +76,8 @@ module _ {X R : Type 0} (says : X → ℕ → Step R → Type 0) (one : SaysOne 
       one_report (n + 1) 0 items l m s t r u
   one_report _ _ _ _ _ _ _ (next_item {k = k} {item = item} a r) (last_item {cause = c} b) = end_or_whole item k c b a
   one_report _ _ _ _ _ _ _ (next_item {k = k} {item = item} a r) (refused_item {cause = c} b u) = continue_or_whole item k c b a
-  one_report _ _ _ _ _ _ _ (last_item {k = k} {item = item} {cause = c} a) (next_piece {bytes = q} b u) = piece_or_close item k q (Ends c) b a
+  one_report _ _ _ _ _ _ _ (last_item {k = k} {item = item} {cause = c} a) (next_piece {bytes = q} b u) =
+      piece_or_close item k q (Ends c) b a
   one_report _ _ _ _ _ _ _ (last_item {k = k} {item = item} {cause = c} a) (next_item b u) = end_or_whole item k c a b
   one_report _ _ _ _ _ _ _ (last_item {number = n} {k = k} {item = item} {cause = c} a) (last_item {cause = d} b) =
       (refl, ap (λ (x : R). stop_at n x) (same_end item k c d a b))
@@ -93,7 +98,8 @@ module _ {X R : Type 0} (says : X → ℕ → Step R → Type 0) (one : SaysOne 
       let e = same_piece item k p q a b in
       record { rest = is.rest ++ concat m; whole_is = part_is f is.rest q (concat m) (sym e ∙ is.whole_is) }
   fronts_are_fronts _ _ _ _ _ _ (front_part {k = k} {item = item} {bytes = p} a is) (next_item b u) = piece_or_close item k p Whole a b
-  fronts_are_fronts _ _ _ _ _ _ (front_part {k = k} {item = item} {bytes = p} a is) (last_item {cause = c} b) = piece_or_close item k p (Ends c) a b
+  fronts_are_fronts _ _ _ _ _ _ (front_part {k = k} {item = item} {bytes = p} a is) (last_item {cause = c} b) =
+      piece_or_close item k p (Ends c) a b
   fronts_are_fronts _ _ _ _ _ _ (front_part {k = k} {item = item} {bytes = p} a is) (refused_item {cause = c} b u) =
       piece_or_close item k p (Continues c) a b
   fronts_are_fronts _ _ _ _ _ _ (front_piece {k = k} {item = item} {items = items} {bytes = p} {later = l} a f)
@@ -101,10 +107,12 @@ module _ {X R : Type 0} (says : X → ℕ → Step R → Type 0) (one : SaysOne 
       let behind = fronts_are_fronts (k + 1) n (item ∷ items) l m t f u in
       record { rest = behind.rest; whole_is = joined_is p q (concat l) (concat m) behind.rest (same_piece item k p q a b) behind.whole_is }
   fronts_are_fronts _ _ _ _ _ _ (front_piece {k = k} {item = item} {bytes = p} a f) (next_item b u) = piece_or_close item k p Whole a b
-  fronts_are_fronts _ _ _ _ _ _ (front_piece {k = k} {item = item} {bytes = p} a f) (last_item {cause = c} b) = piece_or_close item k p (Ends c) a b
+  fronts_are_fronts _ _ _ _ _ _ (front_piece {k = k} {item = item} {bytes = p} a f) (last_item {cause = c} b) =
+      piece_or_close item k p (Ends c) a b
   fronts_are_fronts _ _ _ _ _ _ (front_piece {k = k} {item = item} {bytes = p} a f) (refused_item {cause = c} b u) =
       piece_or_close item k p (Continues c) a b
-  fronts_are_fronts _ _ _ _ _ _ (front_item {k = k} {item = item} {closing = g} a on f) (next_piece {bytes = q} b u) = piece_or_close item k q g b a
+  fronts_are_fronts _ _ _ _ _ _ (front_item {k = k} {item = item} {closing = g} a on f) (next_piece {bytes = q} b u) =
+      piece_or_close item k q g b a
   fronts_are_fronts _ _ _ _ _ _ (front_item {items = items} {later = l} a on f) (next_item {number = n} {later = m} {stop = t} b u) =
       fronts_are_fronts 0 (n + 1) items l m t f u
   fronts_are_fronts _ _ _ _ _ _ (front_item {k = k} {item = item} {closing = g} a on f) (last_item {cause = c} b) =
@@ -118,11 +126,13 @@ module _ {X R : Type 0} (says : X → ℕ → Step R → Type 0) (one : SaysOne 
   empty_front _ _ _ _ _ _ e nothing r = refl
   empty_front _ _ _ _ _ _ e f (next_piece b u) = absurd (cc)
   empty_front _ _ _ _ _ _ e (front_part {k = k} {item = item} {bytes = p} a is) (next_item b u) = piece_or_close item k p Whole a b
-  empty_front _ _ _ _ _ _ e (front_part {k = k} {item = item} {bytes = p} a is) (last_item {cause = c} b) = piece_or_close item k p (Ends c) a b
+  empty_front _ _ _ _ _ _ e (front_part {k = k} {item = item} {bytes = p} a is) (last_item {cause = c} b) =
+      piece_or_close item k p (Ends c) a b
   empty_front _ _ _ _ _ _ e (front_part {k = k} {item = item} {bytes = p} a is) (refused_item {cause = c} b u) =
       piece_or_close item k p (Continues c) a b
   empty_front _ _ _ _ _ _ e (front_piece {k = k} {item = item} {bytes = p} a f) (next_item b u) = piece_or_close item k p Whole a b
-  empty_front _ _ _ _ _ _ e (front_piece {k = k} {item = item} {bytes = p} a f) (last_item {cause = c} b) = piece_or_close item k p (Ends c) a b
+  empty_front _ _ _ _ _ _ e (front_piece {k = k} {item = item} {bytes = p} a f) (last_item {cause = c} b) =
+      piece_or_close item k p (Ends c) a b
   empty_front _ _ _ _ _ _ e (front_piece {k = k} {item = item} {bytes = p} a f) (refused_item {cause = c} b u) =
       piece_or_close item k p (Continues c) a b
   empty_front _ _ _ _ _ _ e (front_item {items = items} {later = l} a on f) (next_item {number = n} {later = m} {stop = t} b u) =

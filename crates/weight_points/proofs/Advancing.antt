@@ -25,7 +25,8 @@ none_follows systems old none z m h =
     let s = solution_of systems z m in
     none s.exponents s.solves (subst (LexLess (map pos old)) (sym s.is) h)
 
-module _ (systems : List Weighted) (old entries a : List ℕ) (m place from : ℕ) (next : m ≡ place + 1) (columns : length old ≡ columns_of systems) (within : place < length old)
+module _ (systems : List Weighted) (old entries a : List ℕ) (m place from : ℕ) (next : m ≡ place + 1)
+    (columns : length old ≡ columns_of systems) (within : place < length old)
     (agrees : AgreesTo m (map pos old) (map pos entries)) (a_is : a ≡ set entries place 0) (from_is : from ≡ exponent entries place + 1)
     (none : (b : List ℕ) → Solves systems b → AgreesTo m (map pos old) (map pos b) → LexLess (map pos old) (map pos b) → ⊥) where
   -- the beginning is kept

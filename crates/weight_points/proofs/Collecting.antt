@@ -19,9 +19,14 @@ same_front : (xs ys us vs : List (List ℤ)) (n : ℕ) → length xs ≡ n → l
 same_front xs ys us vs n e f same = sym (take_at us vs n f) ∙ (ap (λ (zs : List (List ℤ)). take n zs) (sym same) ∙ take_at xs ys n e)
 
 pub none_are_first : (systems : List Weighted) → AreWellFormed systems → AreWithinLimits systems → AreFirst systems 0 []
-none_are_first systems formed limits = record { later = solutions systems; are_monomials = are_monomials systems formed limits.degrees; count_is = refl }
+none_are_first systems formed limits = record {
+  later = solutions systems;
+  are_monomials = are_monomials systems formed limits.degrees;
+  count_is = refl;
+}
 
-pub first_and_next : (systems : List Weighted) (count : ℕ) (xs : List (List ℤ)) (a : List ℤ) → AreFirst systems count xs → IsMonomialAt systems count a → AreFirst systems (count + 1) (xs ++ a ∷ [])
+pub first_and_next : (systems : List Weighted) (count : ℕ) (xs : List (List ℤ)) (a : List ℤ) → AreFirst systems count xs
+    → IsMonomialAt systems count a → AreFirst systems (count + 1) (xs ++ a ∷ [])
 first_and_next systems count xs a f n =
     let same = same_monomials systems (xs ++ f.later) (n.before ++ a ∷ n.after) f.are_monomials n.are_monomials in
     let front = same_front xs f.later n.before (a ∷ n.after) count f.count_is n.count same in
@@ -37,7 +42,8 @@ empty : (xs : List (List ℤ)) → length xs ≡ 0 → xs ≡ []
 empty [] e = refl
 empty (x ∷ xs) e = absurd (omega arith)
 
-pub first_are_all : (systems : List Weighted) (count : ℕ) (xs : List (List ℤ)) → AreFirst systems count xs → HasMonomials systems count → AreMonomials systems xs
+pub first_are_all : (systems : List Weighted) (count : ℕ) (xs : List (List ℤ)) → AreFirst systems count xs → HasMonomials systems count
+    → AreMonomials systems xs
 first_are_all systems count xs f h =
     let same = same_monomials systems (xs ++ f.later) h.members f.are_monomials h.are_monomials in
     let l = sym (length-append xs f.later) ∙ ap length same in

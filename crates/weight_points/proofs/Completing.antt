@@ -16,7 +16,8 @@ use Rattle.lattice_theory.specs.Grid.{AgreesTo, LexAtMost}
 use Rattle.weight_points.proofs.Weighing.{all_unmap, plausible_row, solved_row, solution_small, degrees_small, returned}
 use Rattle.weight_points.proofs.Integral.{comes_before, same_integral, same_exponent, agree_from}
 
-module _ (rows : List Row) (a : List ℕ) (place from : ℕ) (ready : AreRows rows a) (within : place < length a) (zeros : IsZeroFrom place a) where
+module _ (rows : List Row) (a : List ℕ) (place from : ℕ) (ready : AreRows rows a) (within : place < length a)
+    (zeros : IsZeroFrom place a) where
   -- each completion has a plausible exponent at the place
   pub plausible_completion : (b : List ℕ) → IsCompletion (systems_of rows) place from a b → All (IsPlausible place (exponent b place)) rows
   plausible_completion b c =
@@ -26,7 +27,8 @@ module _ (rows : List Row) (a : List ℕ) (place from : ℕ) (ready : AreRows ro
 
   -- and no large one
   pub completion_small : (b : List ℕ) → IsCompletion (systems_of rows) place from a b → exponent b place ≤ MOST_DEGREE
-  completion_small b c = solution_small (systems_of rows) b ready.formed (degrees_small rows a ready.each) c.solves place (let e = c.solves.columns in let f = ready.columns in omega arith)
+  completion_small b c = solution_small (systems_of rows) b ready.formed (degrees_small rows a ready.each) c.solves place
+      (let e = c.solves.columns in let f = ready.columns in omega arith)
 
   -- entries with a value at the place
   value_there : (value : ℕ) → exponent (set a place value) place ≡ value
@@ -39,14 +41,16 @@ module _ (rows : List Row) (a : List ℕ) (place from : ℕ) (ready : AreRows ro
   zeros_behind value i h = value_other value i (omega (arith, h)) ∙ zeros i (omega (arith, h))
 
   -- a completion of the longer beginning is one of the beginning
-  agrees_front : (value : ℕ) (b : List ℕ) → AgreesTo (place + 1) (map pos (set a place value)) (map pos b) → AgreesTo place (map pos a) (map pos b)
+  agrees_front : (value : ℕ) (b : List ℕ) → AgreesTo (place + 1) (map pos (set a place value)) (map pos b)
+      → AgreesTo place (map pos a) (map pos b)
   agrees_front value b h = agree_from a b place
       (λ i k. same_exponent (set a place value) b (place + 1) i h (omega (arith, k)) ∙ value_other value i (omega (arith, k)))
 
   agrees_there : (value : ℕ) (b : List ℕ) → AgreesTo (place + 1) (map pos (set a place value)) (map pos b) → exponent b place ≡ value
   agrees_there value b h = same_exponent (set a place value) b (place + 1) place h (omega arith) ∙ value_there value
 
-  agrees_longer : (value : ℕ) (b : List ℕ) → AgreesTo place (map pos a) (map pos b) → exponent b place ≡ value → AgreesTo (place + 1) (map pos (set a place value)) (map pos b)
+  agrees_longer : (value : ℕ) (b : List ℕ) → AgreesTo place (map pos a) (map pos b) → exponent b place ≡ value
+      → AgreesTo (place + 1) (map pos (set a place value)) (map pos b)
   agrees_longer value b h e = agree_from (set a place value) b (place + 1) (λ i k. by i k (cases_lt i place))
     where
       by : (i : ℕ) → i < place + 1 → (i < place) ⊎ (place ≤ i) → exponent b i ≡ exponent (set a place value) i
@@ -54,7 +58,8 @@ module _ (rows : List Row) (a : List ℕ) (place from : ℕ) (ready : AreRows ro
       by i k (inr l) = let same : i ≡ place = omega (arith, k) in rw same (e ∙ sym (value_there value))
 
   -- what has more at the place comes after all that have the value there
-  above_after : (value : ℕ) (new b : List ℕ) → length new ≡ length a → AgreesTo (place + 1) (map pos (set a place value)) (map pos new) → IsCompletion (systems_of rows) place from a b → value < exponent b place → LexLess (map pos new) (map pos b)
+  above_after : (value : ℕ) (new b : List ℕ) → length new ≡ length a → AgreesTo (place + 1) (map pos (set a place value)) (map pos new)
+      → IsCompletion (systems_of rows) place from a b → value < exponent b place → LexLess (map pos new) (map pos b)
   above_after value new b e h c more =
       comes_before new b place (e ∙ ready.columns ∙ sym c.solves.columns)
       (record {
@@ -84,7 +89,8 @@ module _ (rows : List Row) (a : List ℕ) (place from : ℕ) (ready : AreRows ro
     λ b c. by b c (at_or_above value (exponent b place) (passed b c)),
   )
     where
-      by : (b : List ℕ) → IsCompletion (systems_of rows) place from a b → (exponent b place ≡ value) ⊎ (value < exponent b place) → LexAtMost (map pos (set a place value)) (map pos b)
+      by : (b : List ℕ) → IsCompletion (systems_of rows) place from a b → (exponent b place ≡ value) ⊎ (value < exponent b place)
+          → LexAtMost (map pos (set a place value)) (map pos b)
       by b c (inl e) =
           let l = length-set a place value in
           inr (same_integral (set a place value) b (l ∙ ready.columns ∙ sym c.solves.columns)
@@ -104,7 +110,8 @@ module _ (rows : List Row) (a : List ℕ) (place from : ℕ) (ready : AreRows ro
     λ b c. by b c (at_or_above value (exponent b place) (passed b c)),
   )
     where
-      by : (b : List ℕ) → IsCompletion (systems_of rows) place from a b → (exponent b place ≡ value) ⊎ (value < exponent b place) → LexAtMost (map pos new) (map pos b)
+      by : (b : List ℕ) → IsCompletion (systems_of rows) place from a b → (exponent b place ≡ value) ⊎ (value < exponent b place)
+          → LexAtMost (map pos new) (map pos b)
       by b c (inl e) = deeper.1 b (record { solves = c.solves; agrees = agrees_longer value b c.agrees e; above = omega arith })
       by b c (inr more) = inl (above_after value new b (deeper.0.solves.columns ∙ sym ready.columns) deeper.0.agrees c more)
 
@@ -129,8 +136,10 @@ module _ (rows : List Row) (a : List ℕ) (place from : ℕ) (ready : AreRows ro
       by (inr more) = omega arith
 
 -- what a value that led to nothing leaves behind is what there was
-module _ (rows : List Row) (a : List ℕ) (place value : ℕ) (within : place < length a) (zero_there : exponent a place ≡ 0) (affordable : All (IsAffordable place value) rows) where
-  pub rows_restored : (put_rows rows' : List Row) (a' : List ℕ) (taken : ℕ) → put_rows ≡ map (spending place value) rows → a' ≡ set a place value → taken ≡ exponent a' place
+module _ (rows : List Row) (a : List ℕ) (place value : ℕ) (within : place < length a) (zero_there : exponent a place ≡ 0)
+    (affordable : All (IsAffordable place value) rows) where
+  pub rows_restored : (put_rows rows' : List Row) (a' : List ℕ) (taken : ℕ) → put_rows ≡ map (spending place value) rows
+      → a' ≡ set a place value → taken ≡ exponent a' place
       → rows' ≡ map (returning place taken) put_rows → rows' ≡ rows
   rows_restored put_rows rows' a' taken e f g h =
       let same : taken ≡ value = g ∙ ap (λ (x : List ℕ). exponent x place) f ∙ get_or-set_same a place value 0 within in

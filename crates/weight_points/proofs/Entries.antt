@@ -19,7 +19,8 @@ each_small m (n ∷ b) h =
     at : (n : ℕ) → n ≤ m → pos n ≤ℤ pos m
     at n h = omega (arith, ints)
 
-pub entries_small : (systems : List Weighted) (a : List ℤ) → AreWellFormed systems → All (λ s. s.degree ≤ MOST_DEGREE) systems → IsMonomial systems a
+pub entries_small : (systems : List Weighted) (a : List ℤ) → AreWellFormed systems → All (λ s. s.degree ≤ MOST_DEGREE) systems
+    → IsMonomial systems a
     → All (λ e. (pos 0 ≤ℤ e) × (e ≤ℤ pos MOST_DEGREE)) a
 entries_small systems a formed small m =
     let s = solution_of systems a m in

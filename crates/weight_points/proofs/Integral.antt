@@ -109,4 +109,8 @@ pub record IsSolution (systems : List Weighted) (x : List ℤ) : Type 0 where
 pub solution_of : (systems : List Weighted) (x : List ℤ) → IsMonomial systems x → IsSolution systems x
 solution_of systems x m =
     let n = natural x m.nonnegative in
-    record { exponents = n.exponents; is = n.is; solves = solution_from_monomial systems n.exponents (subst (IsMonomial systems) (sym n.is) m) }
+    record {
+      exponents = n.exponents;
+      is = n.is;
+      solves = solution_from_monomial systems n.exponents (subst (IsMonomial systems) (sym n.is) m);
+    }

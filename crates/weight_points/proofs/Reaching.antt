@@ -18,7 +18,8 @@ once_more w n weights h ([], e) = (1 ∷ [], let none = spent_none weights in om
 once_more w n weights h (x ∷ b, e) = (suc x ∷ b, omega arith)
 
 -- and back
-pub with_or_without : (w n : ℕ) (weights : List ℕ) → CanTake (w ∷ weights) n → CanTake weights n ⊎ ((0 < w) × (w ≤ n) × CanTake (w ∷ weights) (n - w))
+pub with_or_without : (w n : ℕ) (weights : List ℕ) → CanTake (w ∷ weights) n
+    → CanTake weights n ⊎ ((0 < w) × (w ≤ n) × CanTake (w ∷ weights) (n - w))
 with_or_without w n weights ([], e) = inl ([], spent_none weights ∙ e)
 with_or_without w n weights (zero ∷ b, e) = inl (b, omega arith)
 with_or_without w n weights (suc x ∷ b, e) = by (cases_lt 0 w)
@@ -37,12 +38,14 @@ taken w n weights behind reach within columns is known = (to, λ h. from (with_o
     to (inl h) = more_not_at_all w n weights ((is n within).0 h)
     to (inr h) = let p = h.0 in let q = h.1 in once_more w n weights q ((known (n - w) (omega arith)).0 h.2)
 
-    from : CanTake weights n ⊎ ((0 < w) × (w ≤ n) × CanTake (w ∷ weights) (n - w)) → (get_or behind n false ≡ true) ⊎ ((0 < w) × (w ≤ n) × (get_or reach (n - w) false ≡ true))
+    from : CanTake weights n ⊎ ((0 < w) × (w ≤ n) × CanTake (w ∷ weights) (n - w)) → (get_or behind n false ≡ true)
+        ⊎ ((0 < w) × (w ≤ n) × (get_or reach (n - w) false ≡ true))
     from (inl h) = inl ((is n within).1 h)
     from (inr h) = let p = h.0 in let q = h.1 in inr (p, q, (known (n - w) (omega arith)).1 h.2)
 
 -- a table that grows
-pub grown : (P : ℕ → Type 0) (reach : List Bool) (n : ℕ) (x : Bool) → length reach ≡ n → ((m : ℕ) → m < n → (get_or reach m false ≡ true) ↔ P m) → (x ≡ true) ↔ P n
+pub grown : (P : ℕ → Type 0) (reach : List Bool) (n : ℕ) (x : Bool) → length reach ≡ n
+    → ((m : ℕ) → m < n → (get_or reach m false ≡ true) ↔ P m) → (x ≡ true) ↔ P n
     → (m : ℕ) → m < n + 1 → (get_or (reach ++ x ∷ []) m false ≡ true) ↔ P m
 grown P reach n x columns known last m h = by (cases_lt m n)
   where
@@ -58,7 +61,8 @@ pub none_take : (n : ℕ) (x : Bool) → (x ≡ true → n ≡ 0) × (n ≡ 0 �
 none_take n x h = (λ e. ([], sym (h.0 e)), λ c. h.1 (sym c.1))
 
 -- the tables of one place more
-module _ (weights : List ℕ) (degree i place : ℕ) (tables : List (List Bool)) (behind : List Bool) (next : i ≡ place + 1) (within : i ≤ length weights) (columns : length tables + i ≡ length weights) where
+module _ (weights : List ℕ) (degree i place : ℕ) (tables : List (List Bool)) (behind : List Bool) (next : i ≡ place + 1)
+    (within : i ≤ length weights) (columns : length tables + i ≡ length weights) where
   pub rows_more : ((k : ℕ) → k + i < length weights → length (get_or tables k []) ≡ degree + 1) → length behind ≡ degree + 1
       → (k : ℕ) → k + place < length weights → length (get_or (tables ++ behind ∷ []) k []) ≡ degree + 1
   rows_more rows last k h = by (cases_lt k (length tables))
@@ -69,7 +73,8 @@ module _ (weights : List ℕ) (degree i place : ℕ) (tables : List (List Bool))
           let same : length tables ≡ k = omega arith in
           rw (get_or_at tables behind [] [] k same) last
 
-  pub each_more : ((k : ℕ) → k + i < length weights → IsReach (drop (length weights - k) weights) (get_or tables k [])) → IsReach (drop i weights) behind
+  pub each_more : ((k : ℕ) → k + i < length weights → IsReach (drop (length weights - k) weights) (get_or tables k []))
+      → IsReach (drop i weights) behind
       → (k : ℕ) → k + place < length weights → IsReach (drop (length weights - k) weights) (get_or (tables ++ behind ∷ []) k [])
   each_more each last k h = by (cases_lt k (length tables))
     where

@@ -46,25 +46,33 @@ module _ (rows : List Row) (a : List ℕ) (ready : AreRows rows a) where
   found = up_to_lists (IsMonomial systems) (columns_of systems) (λ y m. m.columns) here (solutions systems) columns all_monomials
 
   -- with the next one, these are those up to it
-  one_more_found : (new : List ℕ) → IsNext (IsMonomial systems) here (map pos new) → up_to (map pos new) (solutions systems) ≡ up_to here (solutions systems) ++ map pos new ∷ []
+  one_more_found : (new : List ℕ) → IsNext (IsMonomial systems) here (map pos new)
+      → up_to (map pos new) (solutions systems) ≡ up_to here (solutions systems) ++ map pos new ∷ []
   one_more_found new next =
-      up_to_unique (IsMonomial systems) (map pos new) (up_to (map pos new) (solutions systems)) (up_to here (solutions systems) ++ map pos new ∷ [])
-      (up_to_lists (IsMonomial systems) (columns_of systems) (λ y m. m.columns) (map pos new) (solutions systems) next.holds.columns all_monomials)
-      (next_found (IsMonomial systems) (columns_of systems) (λ y m. m.columns) here (map pos new) (up_to here (solutions systems)) columns found next)
+      up_to_unique (IsMonomial systems) (map pos new) (up_to (map pos new) (solutions systems)) (up_to here (solutions systems)
+      ++ map pos new ∷ [])
+      (up_to_lists (IsMonomial systems) (columns_of systems) (λ y m. m.columns) (map pos new) (solutions systems) next.holds.columns
+      all_monomials)
+      (next_found (IsMonomial systems) (columns_of systems) (λ y m. m.columns) here (map pos new) (up_to here (solutions systems)) columns
+      found next)
 
   -- one more is given
-  pub more_given : (new : List ℕ) → IsNext (IsMonomial systems) here (map pos new) → given_of systems (map pos new) false ≡ given_of systems here false + 1
+  pub more_given : (new : List ℕ) → IsNext (IsMonomial systems) here (map pos new)
+      → given_of systems (map pos new) false ≡ given_of systems here false + 1
   unfolding given_of
   more_given new next = ap length (one_more_found new next) ∙ length-append (up_to here (solutions systems)) (map pos new ∷ [])
 
   -- and that is the next one
-  pub next_given : (new : List ℕ) → IsNext (IsMonomial systems) here (map pos new) → IsMonomialAt systems (given_of systems here false) (map pos new)
+  pub next_given : (new : List ℕ) → IsNext (IsMonomial systems) here (map pos new)
+      → IsMonomialAt systems (given_of systems here false) (map pos new)
   unfolding given_of
   next_given new next =
       let front = up_to here (solutions systems) in
       let rest = behind (map pos new) (solutions systems) in
-      let split = found_first (IsMonomial systems) (columns_of systems) (λ y m. m.columns) (map pos new) (front ++ map pos new ∷ []) (solutions systems)
-      next.holds.columns (next_found (IsMonomial systems) (columns_of systems) (λ y m. m.columns) here (map pos new) front columns found next) all_monomials in
+      let split = found_first (IsMonomial systems) (columns_of systems) (λ y m. m.columns) (map pos new) (front ++ map pos new ∷ [])
+      (solutions systems)
+      next.holds.columns (next_found (IsMonomial systems) (columns_of systems) (λ y m. m.columns) here (map pos new) front columns found
+      next) all_monomials in
       record {
         before = front;
         after = rest;
@@ -77,7 +85,8 @@ module _ (rows : List Row) (a : List ℕ) (ready : AreRows rows a) where
   unfolding given_of
   all_given none =
       ap length (same_monomials systems (up_to here (solutions systems)) (solutions systems)
-      (all_found (IsMonomial systems) (columns_of systems) (λ y m. m.columns) here (up_to here (solutions systems)) columns found none) all_monomials)
+      (all_found (IsMonomial systems) (columns_of systems) (λ y m. m.columns) here (up_to here (solutions systems)) columns found none)
+      all_monomials)
 
   pub has_all : (count : ℕ) → count ≡ length (solutions systems) → HasMonomials systems count
   has_all count e = record { members = solutions systems; are_monomials = all_monomials; count_is = sym e }
@@ -87,7 +96,8 @@ module _ (rows : List Row) (a : List ℕ) (ready : AreRows rows a) where
   unfolding given_of
   given_within =
       let front = up_to here (solutions systems) in
-      let split = found_first (IsMonomial systems) (columns_of systems) (λ y m. m.columns) here front (solutions systems) columns found all_monomials in
+      let split = found_first (IsMonomial systems) (columns_of systems) (λ y m. m.columns) here front (solutions systems) columns found
+      all_monomials in
       let l = ap length split ∙ length-append front (behind here (solutions systems)) in
       omega arith
 
@@ -111,7 +121,8 @@ module _ (rows : List Row) (a : List ℕ) (ready : AreRows rows a) where
   pub none_given : a ≡ replicate (length a) 0 → given_of systems here false ≡ 0
   unfolding given_of
   none_given e =
-      ap length (up_to_unique (IsMonomial systems) here (up_to here (solutions systems)) [] found (none_up_to (IsMonomial systems) here none))
+      ap length (up_to_unique (IsMonomial systems) here (up_to here (solutions systems)) [] found
+      (none_up_to (IsMonomial systems) here none))
     where
       none : (y : List ℤ) → IsMonomial systems y → LexAtMost y here → ⊥
       none y m (inr same) =
@@ -126,7 +137,8 @@ module _ (rows : List Row) (a : List ℕ) (ready : AreRows rows a) where
           omega (arith, ints, nonnegative)
 
 -- a walk whose systems and number are the same is the same
-pub same_walk : (s t : List Weighted) (m n : ℕ) → s ≡ t → m ≡ n → ◌≡◌ {A = Walked} (record { systems = s; given = m }) (record { systems = t; given = n })
+pub same_walk : (s t : List Weighted) (m n : ℕ) → s ≡ t → m ≡ n
+    → ◌≡◌ {A = Walked} (record { systems = s; given = m }) (record { systems = t; given = n })
 same_walk s t m n e f = λ i. record { systems = e i; given = f i }
 
 -- where the walk is finished, all are given
@@ -134,12 +146,14 @@ pub finished_given : (ss : List Weighted) (a : List ℕ) → given_of ss (map po
 unfolding given_of
 finished_given ss a = refl
 
-pub finished_has : (rows : List Row) (a : List ℕ) (finished : Bool) → AreRows rows a → finished ≡ true → HasMonomials (systems_of rows) (given_of (systems_of rows) (map pos a) finished)
+pub finished_has : (rows : List Row) (a : List ℕ) (finished : Bool) → AreRows rows a → finished ≡ true
+    → HasMonomials (systems_of rows) (given_of (systems_of rows) (map pos a) finished)
 finished_has rows a true ready e = has_all rows a ready (given_of (systems_of rows) (map pos a) true) (finished_given (systems_of rows) a)
 finished_has rows a false ready e = absurd cc
 
 -- fresh rows stand beside zeros
-fresh_row : (row : Row) (n : ℕ) → length row.system.weights.items ≡ n → row.system.degree ≤ MOST_DEGREE → IsFresh row → IsRow (replicate n 0) row
+fresh_row : (row : Row) (n : ℕ) → length row.system.weights.items ≡ n → row.system.degree ≤ MOST_DEGREE → IsFresh row
+    → IsRow (replicate n 0) row
 fresh_row row n columns small f = record {
   columns = columns ∙ sym (length-replicate n 0);
   spent_is = let none = spent_zeros row.system.weights.items (replicate n 0) (λ i h. zero_entry n i) in let e = f.left_is in omega arith;
@@ -147,7 +161,8 @@ fresh_row row n columns small f = record {
   reaches = f.reaches;
 }
 
-pub fresh_rows : (rows : List Row) → AreWellFormed (systems_of rows) → All (λ s. s.degree ≤ MOST_DEGREE) (systems_of rows) → All IsFresh rows → AreRows rows (replicate (columns_of (systems_of rows)) 0)
+pub fresh_rows : (rows : List Row) → AreWellFormed (systems_of rows) → All (λ s. s.degree ≤ MOST_DEGREE) (systems_of rows)
+    → All IsFresh rows → AreRows rows (replicate (columns_of (systems_of rows)) 0)
 fresh_rows rows formed small fresh =
     let n = columns_of (systems_of rows) in
     let summed = all_unmap (IsSummed n) system_of rows formed.summed in
@@ -163,7 +178,8 @@ pub record Begins (rows : List Row) (a : List ℕ) : Type 0 where
   pub ready : AreRows rows a
   pub given : given_of (systems_of rows) (map pos a) false ≡ 0
 
-pub begins : (systems : List Weighted) (rows : List Row) (a : List ℕ) → AreWellFormed systems → AreWithinLimits systems → systems_of rows ≡ systems → All IsFresh rows
+pub begins : (systems : List Weighted) (rows : List Row) (a : List ℕ) → AreWellFormed systems → AreWithinLimits systems
+    → systems_of rows ≡ systems → All IsFresh rows
     → a ≡ replicate (columns_of systems) 0 → Begins rows a
 begins systems rows a formed limits same fresh zeros =
     let formed' = rw (sym same) at formed in
@@ -173,14 +189,16 @@ begins systems rows a formed limits same fresh zeros =
     record { ready = ready; given = none_given rows a ready (rw ready.columns zeros') }
 
 -- the count of all, where nothing comes later
-pub counted_all : (systems : List Weighted) (rows : List Row) (a : List ℕ) (count limit : ℕ) → systems_of rows ≡ systems → AreRows rows a → given_of (systems_of rows) (map pos a) false ≡ count → count ≤ limit
+pub counted_all : (systems : List Weighted) (rows : List Row) (a : List ℕ) (count limit : ℕ) → systems_of rows ≡ systems → AreRows rows a
+    → given_of (systems_of rows) (map pos a) false ≡ count → count ≤ limit
     → ((z : List ℤ) → IsMonomial (systems_of rows) z → LexLess (map pos a) z → ⊥) → CountsMonomials systems limit count
 counted_all systems rows a count limit same ready given within none =
     let all = all_given rows a ready none in
     subst (λ s. CountsMonomials s limit count) same (counts rows a ready limit count (omega arith))
 
 -- or more than the limit
-pub counted_more : (systems : List Weighted) (rows : List Row) (a : List ℕ) (limit : ℕ) → systems_of rows ≡ systems → AreRows rows a → given_of (systems_of rows) (map pos a) false ≡ limit + 1
+pub counted_more : (systems : List Weighted) (rows : List Row) (a : List ℕ) (limit : ℕ) → systems_of rows ≡ systems → AreRows rows a
+    → given_of (systems_of rows) (map pos a) false ≡ limit + 1
     → CountsMonomials systems limit (limit + 1)
 counted_more systems rows a limit same ready given =
     let within = given_within rows a ready in

@@ -25,7 +25,8 @@ spent_set (w ∷ weights) (x ∷ a) zero v e h = omega arith
 spent_set (w ∷ weights) (x ∷ a) (suc i) v e h = let r = spent_set weights a i v (omega arith) (omega arith) in omega arith
 
 -- one exponent is part of the whole
-pub spent_part : (weights a : List ℕ) (i : ℕ) → length weights ≡ length a → i < length a → exponent a i * get_or weights i 0 ≤ spent weights a
+pub spent_part : (weights a : List ℕ) (i : ℕ) → length weights ≡ length a → i < length a
+    → exponent a i * get_or weights i 0 ≤ spent weights a
 spent_part weights [] i e h = absurd (omega arith)
 spent_part [] (x ∷ a) i e h = absurd (omega arith)
 spent_part (w ∷ weights) (x ∷ a) zero e h = omega arith
@@ -41,8 +42,10 @@ spent_zeros (w ∷ weights) (x ∷ a) z =
     rw (first, r) (omega arith)
 
 -- with exponents that begin alike, where behind the place one has only 0
-pub spent_behind : (weights a b : List ℕ) (place : ℕ) → length weights ≡ length a → length b ≡ length a → place < length a → ((i : ℕ) → i < place → exponent b i ≡ exponent a i) → IsZeroFrom place a
-    → spent weights b ≡ spent weights a + (exponent b place * get_or weights place 0 + spent (drop (suc place) weights) (drop (suc place) b))
+pub spent_behind : (weights a b : List ℕ) (place : ℕ) → length weights ≡ length a → length b ≡ length a → place < length a
+    → ((i : ℕ) → i < place → exponent b i ≡ exponent a i) → IsZeroFrom place a
+    → spent weights b ≡ spent weights a + (exponent b place * get_or weights place 0 + spent (drop (suc place) weights)
+    (drop (suc place) b))
 spent_behind weights [] b place e f h agree z = absurd (omega arith)
 spent_behind [] (x ∷ a) b place e f h agree z = absurd (omega arith)
 spent_behind (w ∷ weights) (x ∷ a) [] place e f h agree z = absurd (omega arith)
@@ -51,12 +54,14 @@ spent_behind (w ∷ weights) (x ∷ a) (y ∷ b) zero e f h agree z =
     let first : x ≡ 0 = z 0 (omega arith) in
     rw (none, first) (omega arith)
 spent_behind (w ∷ weights) (x ∷ a) (y ∷ b) (suc place) e f h agree z =
-    let r = spent_behind weights a b place (omega arith) (omega arith) (omega arith) (λ i k. agree (suc i) (suc-le-suc k)) (λ i k. z (suc i) (suc-le-suc k)) in
+    let r = spent_behind weights a b place (omega arith) (omega arith) (omega arith) (λ i k. agree (suc i) (suc-le-suc k))
+    (λ i k. z (suc i) (suc-le-suc k)) in
     let first : y ≡ x = agree 0 (zero-lt-suc place) in
     rw (first, r) (omega arith)
 
 -- so the exponent at the place is plausible, where the other exponents take the whole degree
-pub plausible_row : (row : Row) (a b : List ℕ) (place : ℕ) → IsRow a row → length b ≡ length a → place < length a → ((i : ℕ) → i < place → exponent b i ≡ exponent a i) → IsZeroFrom place a
+pub plausible_row : (row : Row) (a b : List ℕ) (place : ℕ) → IsRow a row → length b ≡ length a → place < length a
+    → ((i : ℕ) → i < place → exponent b i ≡ exponent a i) → IsZeroFrom place a
     → spent row.system.weights.items b ≡ row.system.degree → IsPlausible place (exponent b place) row
 plausible_row row a b place r f h agree z e =
     let s = spent_behind row.system.weights.items a b place r.columns f h agree z in
@@ -71,7 +76,8 @@ spent_past (w ∷ weights) b zero h = absurd (omega arith)
 spent_past (w ∷ weights) b (suc n) h = spent_past weights b n (omega arith)
 
 -- at the last place a plausible value takes the whole degree
-pub solved_row : (row : Row) (a : List ℕ) (place value : ℕ) → IsRow a row → place + 1 ≡ length a → exponent a place ≡ 0 → IsPlausible place value row
+pub solved_row : (row : Row) (a : List ℕ) (place value : ℕ) → IsRow a row → place + 1 ≡ length a → exponent a place ≡ 0
+    → IsPlausible place value row
     → spent row.system.weights.items (set a place value) ≡ row.system.degree
 solved_row row a place value r last zero_there p =
     let d = spent_past row.system.weights.items p.further (suc place) (let e = r.columns in omega arith) in
@@ -82,7 +88,8 @@ solved_row row a place value r last zero_there p =
     omega arith
 
 -- so at the last place it is all that is left, divided by the weight
-pub last_value_is : (row : Row) (place value : ℕ) → place + 1 ≡ length row.system.weights.items → IsPlausible place value row → value * weight_at row place ≡ row.left
+pub last_value_is : (row : Row) (place value : ℕ) → place + 1 ≡ length row.system.weights.items → IsPlausible place value row
+    → value * weight_at row place ≡ row.left
 last_value_is row place value last p =
     let d = spent_past row.system.weights.items p.further (suc place) (omega arith) in
     let p' = rw d at p.is in
@@ -98,7 +105,8 @@ row_place row a place r h = record {
 }
 
 -- a value is written over 0
-pub put_row : (row : Row) (a : List ℕ) (place value : ℕ) → IsRow a row → place < length a → exponent a place ≡ 0 → IsAffordable place value row
+pub put_row : (row : Row) (a : List ℕ) (place value : ℕ) → IsRow a row → place < length a → exponent a place ≡ 0
+    → IsAffordable place value row
     → IsRow (set a place value) (spending place value row)
 put_row row a place value r h zero_there k =
     let s = spent_set row.system.weights.items a place value r.columns h in
@@ -107,7 +115,8 @@ put_row row a place value r h zero_there k =
     record { columns = r.columns ∙ sym (length-set a place value); spent_is = omega arith; small = r.small; reaches = r.reaches }
 
 -- 0 is written over a value, and there is room for what is given back
-pub clear_row : (row : Row) (a : List ℕ) (place : ℕ) → IsRow a row → place < length a → IsRow (set a place 0) (returning place (exponent a place) row)
+pub clear_row : (row : Row) (a : List ℕ) (place : ℕ) → IsRow a row → place < length a
+    → IsRow (set a place 0) (returning place (exponent a place) row)
 clear_row row a place r h =
     let s = spent_set row.system.weights.items a place 0 r.columns h in
     let all = r.spent_is in
@@ -135,7 +144,8 @@ returned_row place value row h =
     let e : row.left - value * weight_at row place + value * weight_at row place ≡ row.left = omega arith in
     ap (λ (n : ℕ). record row { left = n }) e
 
-pub returned : (place value : ℕ) (rows : List Row) → All (IsAffordable place value) rows → map (returning place value) (map (spending place value) rows) ≡ rows
+pub returned : (place value : ℕ) (rows : List Row) → All (IsAffordable place value) rows
+    → map (returning place value) (map (spending place value) rows) ≡ rows
 returned place value [] h = refl
 returned place value (row ∷ rows) h =
     let first = returned_row place value row (All-head (IsAffordable place value) row rows h) in
@@ -143,7 +153,8 @@ returned place value (row ∷ rows) h =
     λ i. first i ∷ others i
 
 -- no exponent of a solution is above the greatest degree
-pub solution_small : (systems : List Weighted) (b : List ℕ) → AreWellFormed systems → All (λ s. s.degree ≤ MOST_DEGREE) systems → Solves systems b
+pub solution_small : (systems : List Weighted) (b : List ℕ) → AreWellFormed systems → All (λ s. s.degree ≤ MOST_DEGREE) systems
+    → Solves systems b
     → (i : ℕ) → i < length b → exponent b i ≤ MOST_DEGREE
 solution_small systems b formed small solves i h =
     let used = formed.used i (let e = solves.columns in omega arith) in
@@ -162,7 +173,8 @@ degrees_small rows a each = All-map (λ s. s.degree ≤ MOST_DEGREE) system_of r
 
 -- less is affordable, too
 pub affordable_less : (place value more : ℕ) (row : Row) → value ≤ more → IsAffordable place more row → IsAffordable place value row
-affordable_less place value more row h k = let m : value * weight_at row place ≤ more * weight_at row place = mul-le-mul_right (weight_at row place) h in omega arith
+affordable_less place value more row h k = let m : value * weight_at row place ≤ more * weight_at row place =
+    mul-le-mul_right (weight_at row place) h in omega arith
 
 -- exponents take no more than the degree of a system, which isn't large
 record FitsBeside (a : List ℕ) (system : Weighted) : Type 0 where
@@ -172,24 +184,29 @@ record FitsBeside (a : List ℕ) (system : Weighted) : Type 0 where
 fits_beside : (a : List ℕ) (row : Row) → IsRow a row → FitsBeside a (system_of row)
 fits_beside a row r = record { columns = r.columns; most = let s = r.spent_is in let m = r.small in omega arith }
 
-beside_part : (a : List ℕ) (system : Weighted) (place : ℕ) → FitsBeside a system → place < length a → exponent a place * get_or system.weights place 0 ≤ MOST_DEGREE
+beside_part : (a : List ℕ) (system : Weighted) (place : ℕ) → FitsBeside a system → place < length a
+    → exponent a place * get_or system.weights place 0 ≤ MOST_DEGREE
 beside_part a system place f h = let part = spent_part system.weights a place f.columns h in let m = f.most in omega arith
 
 -- a value is written over 0 in each row
-pub put_ready : (rows : List Row) (a : List ℕ) (place value : ℕ) → AreRows rows a → place < length a → exponent a place ≡ 0 → All (IsAffordable place value) rows
+pub put_ready : (rows : List Row) (a : List ℕ) (place value : ℕ) → AreRows rows a → place < length a → exponent a place ≡ 0
+    → All (IsAffordable place value) rows
     → AreRows (map (spending place value) rows) (set a place value)
 put_ready rows a place value r h zero_there k = record {
   formed = rw (systems_spending place value rows) r.formed;
   columns = rw (systems_spending place value rows) (length-set a place value ∙ r.columns);
-  each = All-map (IsRow (set a place value)) (spending place value) rows (λ i d l. put_row (get_or rows i d) a place value (r.each i d l) h zero_there (k i d l));
+  each = All-map (IsRow (set a place value)) (spending place value) rows
+      (λ i d l. put_row (get_or rows i d) a place value (r.each i d l) h zero_there (k i d l));
 }
 
 -- 0 is written over a value in each row
-pub clear_ready : (rows : List Row) (a : List ℕ) (place : ℕ) → AreRows rows a → place < length a → AreRows (map (returning place (exponent a place)) rows) (set a place 0)
+pub clear_ready : (rows : List Row) (a : List ℕ) (place : ℕ) → AreRows rows a → place < length a
+    → AreRows (map (returning place (exponent a place)) rows) (set a place 0)
 clear_ready rows a place r h = record {
   formed = rw (systems_returning place (exponent a place) rows) r.formed;
   columns = rw (systems_returning place (exponent a place) rows) (length-set a place 0 ∙ r.columns);
-  each = All-map (IsRow (set a place 0)) (returning place (exponent a place)) rows (λ i d l. clear_row (get_or rows i d) a place (r.each i d l) h);
+  each = All-map (IsRow (set a place 0)) (returning place (exponent a place)) rows
+      (λ i d l. clear_row (get_or rows i d) a place (r.each i d l) h);
 }
 
 -- no exponent is above the greatest degree
@@ -199,6 +216,8 @@ exponent_small rows a place r h =
     let s = used.system in
     let positive = used.positive in
     let most : exponent a place ≤ exponent a place * get_or s.weights place 0 = le-mul_of_pos_right _ positive in
-    let bound : (t : Weighted) → FitsBeside a t → exponent a place * get_or t.weights place 0 ≤ MOST_DEGREE = λ t f. beside_part a t place f h in
-    let here = bound s (All-contains (FitsBeside a) (systems_of rows) s (All-map (FitsBeside a) system_of rows (λ i d l. fits_beside a (get_or rows i d) (r.each i d l))) used.member) in
+    let bound : (t : Weighted) → FitsBeside a t → exponent a place * get_or t.weights place 0 ≤ MOST_DEGREE =
+    λ t f. beside_part a t place f h in
+    let here = bound s (All-contains (FitsBeside a) (systems_of rows) s
+    (All-map (FitsBeside a) system_of rows (λ i d l. fits_beside a (get_or rows i d) (r.each i d l))) used.member) in
     omega arith

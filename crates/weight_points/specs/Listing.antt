@@ -12,7 +12,8 @@ solves systems x = list_all (λ s. nat_abs (weighted_degree s x -ℤ pos s.degre
 
 -- all vectors with entries from 0 to the greatest degree that do
 unfoldable pub solutions : List Weighted → List (List ℤ)
-solutions systems = filter (solves systems) (grid (replicate (columns_of systems) (pos 0)) (replicate (columns_of systems) (pos MOST_DEGREE)))
+solutions systems = filter (solves systems)
+    (grid (replicate (columns_of systems) (pos 0)) (replicate (columns_of systems) (pos MOST_DEGREE)))
 
 -- how many exponent vectors of the systems were given: all, where the walk is finished, and otherwise those up to the last one
 unfoldable pub given_of : List Weighted → List ℤ → Bool → ℕ

@@ -28,7 +28,8 @@ pub record HasMonomials (systems : List Weighted) (count : ℕ) : Type 0 where
 
 -- a step of the walk: with the answer true the next exponent vector is given, and with the answer false all were given and nothing changes
 abbrev pub GivesNext : Walked → Walked → List ℤ → List ℤ → Bool → Type 0
-GivesNext old new out_old out_new true = (new.systems ≡ old.systems) × (new.given ≡ old.given + 1) × IsMonomialAt old.systems old.given out_new
+GivesNext old new out_old out_new true = (new.systems ≡ old.systems) × (new.given ≡ old.given + 1)
+    × IsMonomialAt old.systems old.given out_new
 GivesNext old new out_old out_new false = (new ≡ old) × (out_new ≡ out_old) × HasMonomials old.systems old.given
 
 -- the number of exponent vectors, or limit + 1 where there are more than `limit`

@@ -16,7 +16,8 @@ returns-in_err-points-clause-points c =
 pub size_above_limit-requires : goal.size_above_limit-requires
 size_above_limit-requires c =
     let m = c.args.matrix.now in
-    rw c.deref.ensures.value (some_points (ListedPoints m.lines m.columns m.entries.items) c.in_ok-points.points.items c.in_ok-points.ensures).are_points
+    rw c.deref.ensures.value (some_points (ListedPoints m.lines m.columns m.entries.items) c.in_ok-points.points.items
+    c.in_ok-points.ensures).are_points
 
 pub returns-in-Some-clause-points : goal.returns-in-Some-clause-points
 returns-in-Some-clause-points c =

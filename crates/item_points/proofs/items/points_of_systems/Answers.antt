@@ -21,7 +21,8 @@ returns-in-Some-clause-points c =
 
 pub returns-clause-premises : goal.returns-clause-premises
 returns-clause-premises c =
-    let some = some_points (ListedWeights (weighted_all c.args.systems.now)) c.in_ok-points.points.items c.in_ok-points.ensures.are_points in
+    let some = some_points (ListedWeights (weighted_all c.args.systems.now)) c.in_ok-points.points.items
+    c.in_ok-points.ensures.are_points in
     record {
       sized = record { are_points = some.are_points; within = rw c.deref.ensures.value at c.in_default.ensures.within refl };
       least = some.least;

@@ -7,7 +7,8 @@ pub frame_of-requires-clause-limited : goal.frame_of-requires-clause-limited
 frame_of-requires-clause-limited c = numbers_within (weighted_all c.args.systems.now) c.requires.numbers
 
 pub returns-in-Err : goal.returns-in-Err
-returns-in-Err c = frame_stops (weighted_all c.args.systems.now) c.in-Err.fault c.frame_fault.result c.requires.numbers c.in-Err.ensures.fault c.frame_fault.ensures
+returns-in-Err c = frame_stops (weighted_all c.args.systems.now) c.in-Err.fault c.frame_fault.result c.requires.numbers
+    c.in-Err.ensures.fault c.frame_fault.ensures
 
 pub returns : goal.returns
 returns c = rw c.in-Ok.ensures.systems at c.walk.ensures

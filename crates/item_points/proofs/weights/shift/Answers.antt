@@ -20,4 +20,5 @@ loop-entry-preserved c =
     let fits : SFits w64 x = search rules in
     let less : SFits w64 (x -ℤ pos 1) = search rules in
     rw (to_z-of_z w64 x fits, to_z-of_z w64 (x -ℤ pos 1) less)
-    (map_over_more f old items i x within c.loop-entry.invariant (get_or_default items i (pos 0) x (rw c.loop-entry.auto.entry-items within)))
+    (map_over_more f old items i x within c.loop-entry.invariant
+    (get_or_default items i (pos 0) x (rw c.loop-entry.auto.entry-items within)))

@@ -10,7 +10,8 @@ returns-in-Ok g c =
 
 pub returns-in-Ok-2 : goal.returns-in-Ok-2
 returns-in-Ok-2 g c =
-    not_built_answer (map (λ w. string_bytes w) c.args.words.now) _ _ c.in-Ok.job c.in-Ok.ensures (λ b. let e = c.if-is_built.ensures.1 b in cc)
+    not_built_answer (map (λ w. string_bytes w) c.args.words.now) _ _ c.in-Ok.job c.in-Ok.ensures (λ b. let e = c.if-is_built.ensures.1 b in
+    cc)
 
 pub returns-in-Err : goal.returns-in-Err
 returns-in-Err g c = bad_words_answer (map (λ w. string_bytes w) c.args.words.now) _ _ c.in-Err.fault c.in-Err.ensures

@@ -3,7 +3,8 @@ use Rattle.palp_engine.proofs.command.perform.Goals as goal
 
 pub returns-in-Ok : goal.returns-in-Ok
 returns-in-Ok g c =
-    report_performs c.args.job.now _ _ _ _ c.in-Ok.reading c.report.result c.in-Ok.ensures.reads (rw c.deref.ensures.value at c.report.ensures)
+    report_performs c.args.job.now _ _ _ _ c.in-Ok.reading c.report.result c.in-Ok.ensures.reads
+    (rw c.deref.ensures.value at c.report.ensures)
 
 pub returns-in-Err-NoMemory : goal.returns-in-Err-NoMemory
 returns-in-Err-NoMemory g c =

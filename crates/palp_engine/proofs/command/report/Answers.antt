@@ -10,16 +10,19 @@ loop-place-init g c = reported_first c.args.job.now c.args.items.now _
 
 pub returns-in-Err : goal.returns-in-Err
 returns-in-Err g c =
-    reported_fault c.args.job.now c.args.items.now c.loop-place.place _ _ c.loop-place.invariant c.index-items-place.result c.loop-place-test.true
+    reported_fault c.args.job.now c.args.items.now c.loop-place.place _ _ c.loop-place.invariant c.index-items-place.result
+    c.loop-place-test.true
     c.index-items-place.is (g.O.Sink.state c.report_item.new.out) (text_end c.args.ending) c.in-Err.fault c.stopped.result c.stopped.ensures
     c.in-Err.ensures
 
 pub loop-place-preserved : goal.loop-place-preserved
 loop-place-preserved g c =
-    reported_next c.args.job.now c.args.items.now c.loop-place.place _ _ c.loop-place.invariant c.index-items-place.result c.loop-place-test.true
+    reported_next c.args.job.now c.args.items.now c.loop-place.place _ _ c.loop-place.invariant c.index-items-place.result
+    c.loop-place-test.true
     c.index-items-place.is (g.O.Sink.state c.report_item.new.out) c.in_default-report_item.ensures
 
 pub returns : goal.returns
 returns g c =
-    rw c.outcome_of.ensures (reported_whole c.args.job.now c.args.items.now c.loop-place.place _ _ c.loop-place.invariant (text_end c.args.ending)
+    rw c.outcome_of.ensures (reported_whole c.args.job.now c.args.items.now c.loop-place.place _ _ c.loop-place.invariant
+    (text_end c.args.ending)
     c.loop-place-test.false)

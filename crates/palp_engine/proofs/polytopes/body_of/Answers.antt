@@ -17,7 +17,8 @@ count_to-requires-clause-vertices c =
     let points = c.args.points.now in
     let solid = item_solid points c.requires c.in_ok-facets.ensures.solid.solid in
     rw c.as_slice-2.ensures.value
-    (solid_vertices (dimension_of points) points c.in_ok-vertices.vertices.items solid c.in_ok-vertices.ensures.vertices c.requires.sized.within)
+    (solid_vertices (dimension_of points) points c.in_ok-vertices.vertices.items solid c.in_ok-vertices.ensures.vertices
+    c.requires.sized.within)
 
 pub count_to-requires-clause-facets : goal.count_to-requires-clause-facets
 count_to-requires-clause-facets c =
@@ -39,7 +40,12 @@ returns-in_err-vertices c =
     let n = dimension_of c.args.points.now in
     let points = c.args.points.now in
     let found = c.in_ok-facets.ensures in
-    let few : HaveFewFacets n points = record { solid = found.solid.solid; facets = c.in_ok-facets.facets.items; are_facets = found.facets; few = found.few } in
+    let few : HaveFewFacets n points = record {
+      solid = found.solid.solid;
+      facets = c.in_ok-facets.facets.items;
+      are_facets = found.facets;
+      few = found.few;
+    } in
     let e = err_from_is_err_and c.from_residual-in_err-vertices.result c.from_residual-in_err-vertices.ensures.1 in
     rw e.1 (vertices_stop n points e.0 few (subst (Stops (IsVerticesRefusal n points)) (sym e.2) c.in_err-vertices.ensures.refused))
 
@@ -58,7 +64,7 @@ returns-then-count-most c =
     } in
     let solid = item_solid points c.requires c.in_ok-facets.ensures.solid.solid in
     let counts = counts_lattice n points vertices solid c.in_ok-vertices.ensures.vertices 16384 c.in_ok-count.count
-        (rw c.as_slice-2.ensures.value at c.in_ok-count.ensures) in
+    (rw c.as_slice-2.ensures.value at c.in_ok-count.ensures) in
     many_points (many_counted n points facets vertices passed c.in_ok-count.count counts c.from.result c.if-count-most.true c.from.ensures)
 
 pub returns : goal.returns
@@ -76,7 +82,7 @@ returns c =
     } in
     let solid = item_solid points c.requires c.in_ok-facets.ensures.solid.solid in
     let counts = counts_lattice n points vertices solid c.in_ok-vertices.ensures.vertices 16384 c.in_ok-count.count
-        (rw c.as_slice-2.ensures.value at c.in_ok-count.ensures) in
+    (rw c.as_slice-2.ensures.value at c.in_ok-count.ensures) in
     let vertex_count : c.len.result ≡ length vertices = search rules in
     let facet_count : c.len-2.result ≡ length facets = search rules in
     few_counted n points facets vertices passed c.in_ok-count.count counts c.body_line.result.items (omega (arith, c.if-count-most.false))

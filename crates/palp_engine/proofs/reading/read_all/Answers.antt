@@ -20,7 +20,8 @@ pub loop-item-smaller : goal.loop-item-smaller
 loop-item-smaller g c =
     let given = subst (λ (o : Option Item). NextMeans (Ok o) c.loop-item.reader c.next_item.new.self (g.S.Source.state c.loop-item.src)
     (g.S.Source.state c.next_item.new.src)) c.in-Ok-Some.field-0-is c.in-Ok-Some.ensures in
-    let more = passes_more c.loop-item.reader c.next_item.new.self given.bytes (g.S.Source.state c.loop-item.src) c.in-Ok-Some.item given.answer in
+    let more = passes_more c.loop-item.reader c.next_item.new.self given.bytes (g.S.Source.state c.loop-item.src) c.in-Ok-Some.item
+    given.answer in
     omega (arith, more)
 
 pub loop-item-preserved : goal.loop-item-preserved

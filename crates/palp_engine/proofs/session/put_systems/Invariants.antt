@@ -5,4 +5,7 @@ use Rattle.palp_engine.specs.Items.{numbers_text}
 use Rattle.palp_engine.proofs.session.put_systems.Given as goal
 
 abbrev pub invariant-loop-system : goal.invariant-loop-system
-invariant-loop-system l = record { written : l.page.items ≡ l.initial.page.items ++ numbers_text (numbers_in (weighted_all (take l.system-index l.systems))) }
+invariant-loop-system l = record {
+  written : l.page.items ≡ l.initial.page.items
+      ++ numbers_text (numbers_in (weighted_all (take l.system-index l.systems)));
+}

@@ -6,7 +6,8 @@ use Rattle.palp_engine.proofs.session.report_item.Goals as goal
 pub returns-in_err-write_piece : goal.returns-in_err-write_piece
 returns-in_err-write_piece g c =
     let e = err_from_is_err_and c.from_residual.result c.from_residual.ensures.1 in
-    rw e.1 (stopped_item c.args.job.now c.requires.job (listed c.args.item.now) _ c.in_err-write_piece.field-0.0 e.0 c.in_err-write_piece.ensures e.2)
+    rw e.1 (stopped_item c.args.job.now c.requires.job (listed c.args.item.now) _ c.in_err-write_piece.field-0.0 e.0
+    c.in_err-write_piece.ensures e.2)
 
 pub returns : goal.returns
 returns g c =
@@ -16,6 +17,7 @@ returns g c =
       | goal.in-Failed w ↦ rw w.result-is (
         (w.in-Failed.ensures.means).rose,
         part_of_item c.args.job.now c.requires.job (listed c.args.item.now) _
-            c.write_piece.new.page.items c.in_ok-write_piece.ensures _ c.give.ensures.later (rw c.deref.ensures.value at (w.in-Failed.ensures.means)).part,
+            c.write_piece.new.page.items c.in_ok-write_piece.ensures _ c.give.ensures.later
+            (rw c.deref.ensures.value at (w.in-Failed.ensures.means)).part,
       )
     ]

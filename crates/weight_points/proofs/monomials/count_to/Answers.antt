@@ -8,13 +8,15 @@ use Rattle.weight_points.proofs.monomials.count_to.Goals as goal
 
 pub loop-count-init : goal.loop-count-init
 loop-count-init c =
-    let start = begins (weighted_all c.args.systems.now) c.in_ok-rows.rows.items c.in_ok-entries.entries.items c.requires.formed c.requires.limits c.in_ok-rows.ensures.systems c.in_ok-rows.ensures.fresh c.in_ok-entries.ensures in
+    let start = begins (weighted_all c.args.systems.now) c.in_ok-rows.rows.items c.in_ok-entries.entries.items c.requires.formed
+    c.requires.limits c.in_ok-rows.ensures.systems c.in_ok-rows.ensures.fresh c.in_ok-entries.ensures in
     record { systems = c.in_ok-rows.ensures.systems; ready = start.ready; given = start.given }
 
 pub returns-then-not-step : goal.returns-then-not-step
 returns-then-not-step c =
     let i = c.loop-count.invariant in
-    counted_all (weighted_all c.args.systems.now) c.loop-count.rows.items c.loop-count.entries.items c.loop-count.count c.args.limit i.systems i.ready i.given (omega arith) c.if-not-step.ensures.follows
+    counted_all (weighted_all c.args.systems.now) c.loop-count.rows.items c.loop-count.entries.items c.loop-count.count c.args.limit
+    i.systems i.ready i.given (omega arith) c.if-not-step.ensures.follows
 
 pub loop-count-preserved : goal.loop-count-preserved
 loop-count-preserved c =
@@ -33,4 +35,5 @@ pub returns : goal.returns
 returns c =
     let i = c.loop-count.invariant in
     let end : c.loop-count.count ≡ c.args.limit + 1 = omega arith in
-    counted_more (weighted_all c.args.systems.now) c.loop-count.rows.items c.loop-count.entries.items c.args.limit i.systems i.ready (i.given ∙ end)
+    counted_more (weighted_all c.args.systems.now) c.loop-count.rows.items c.loop-count.entries.items c.args.limit i.systems i.ready
+    (i.given ∙ end)

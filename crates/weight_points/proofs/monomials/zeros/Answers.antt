@@ -3,4 +3,5 @@ use Rattle.std.proofs.lemmas.List.{replicate-append-replicate}
 use Rattle.weight_points.proofs.monomials.zeros.Goals as goal
 
 pub loop-preserved : goal.loop-preserved
-loop-preserved c = c.in_ok-push.ensures.items ∙ (ap (λ (zs : List ℕ). zs ++ 0 ∷ []) c.loop.invariant ∙ replicate-append-replicate c.loop.counter 1 0)
+loop-preserved c = c.in_ok-push.ensures.items
+    ∙ (ap (λ (zs : List ℕ). zs ++ 0 ∷ []) c.loop.invariant ∙ replicate-append-replicate c.loop.counter 1 0)

@@ -20,7 +20,8 @@ loop-number-preserved c =
           let is' = rw c.deref.ensures.value at is in
           let both : (x ≡ true) ↔ CanTake (c.args.weight ∷ weights) n = (λ e. whole.0 (is'.0 e), λ t. is'.1 (whole.1 t)) in
           let all = grown (CanTake (c.args.weight ∷ weights)) reach n x i.columns before both in
-          subst (λ (xs : List Bool). (m : ℕ) → m < n + 1 → (get_or xs m false ≡ true) ↔ CanTake (c.args.weight ∷ weights) m) (sym pushed) all;
+          subst (λ (xs : List Bool). (m : ℕ) → m < n + 1 → (get_or xs m false ≡ true) ↔ CanTake (c.args.weight ∷ weights) m)
+          (sym pushed) all;
     }
 
 pub returns-clause-reach : goal.returns-clause-reach

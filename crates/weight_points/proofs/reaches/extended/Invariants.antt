@@ -5,5 +5,6 @@ use Rattle.weight_points.proofs.reaches.extended.Given as goal
 abbrev pub invariant-loop-number : goal.invariant-loop-number
 invariant-loop-number l = record {
   columns : length l.reach.items ≡ l.number;
-  known : (weights : List ℕ) → IsReach weights l.behind → (m : ℕ) → m < l.number → (get_or l.reach.items m false ≡ true) ↔ CanTake (l.weight ∷ weights) m;
+  known : (weights : List ℕ) → IsReach weights l.behind → (m : ℕ) → m < l.number
+      → (get_or l.reach.items m false ≡ true) ↔ CanTake (l.weight ∷ weights) m;
 }

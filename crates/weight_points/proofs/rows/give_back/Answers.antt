@@ -14,8 +14,11 @@ loop-row-preserved c =
     let i = c.loop-row.row-index in
     let f = returning place c.args.value in
     let row = get_or rows i c.row-item.result in
-    let there : row ≡ get_or old i c.row-item.result = ap (λ (rs : List Row). get_or rs i c.row-item.result) c.loop-row.invariant ∙ unreached f old i c.row-item.result in
+    let there : row ≡ get_or old i c.row-item.result = ap (λ (rs : List Row). get_or rs i c.row-item.result) c.loop-row.invariant
+    ∙ unreached f old i c.row-item.result in
     let has : HasPlace place row = subst (HasPlace place) (sym there) (c.requires.places i c.row-item.result c.loop-row-test.true) in
-    let weight : c.index.result.now ≡ weight_at row place = c.index.ensures ∙ get_or_default row.system.weights.items place _ 0 has.weight in
+    let weight : c.index.result.now ≡ weight_at row place =
+    c.index.ensures ∙ get_or_default row.system.weights.items place _ 0 has.weight in
     let within : i < length rows = omega arith in
-    rw weight (map_over_more f old rows i row c.loop-row-test.true c.loop-row.invariant (get_or_default rows i c.row-item.result row within))
+    rw weight (map_over_more f old rows i row c.loop-row-test.true c.loop-row.invariant
+    (get_or_default rows i c.row-item.result row within))

@@ -24,10 +24,13 @@ loop-system-preserved c =
     let item = c.system-item.result in
     let pushed = c.in_ok-push.ensures.items in
     let more : weighted_all (take (i + 1) systems) ≡ weighted_all (take i systems) ++ weighted item ∷ [] =
-    map_more weighted systems i item c.loop-system-test.true ∙ ap (λ (s : WeightSystem). weighted_all (take i systems) ++ weighted s ∷ []) (sym c.system-item.is) in
+    map_more weighted systems i item c.loop-system-test.true ∙ ap (λ (s : WeightSystem). weighted_all (take i systems) ++ weighted s ∷ [])
+    (sym c.system-item.is) in
     let same : systems_of rows ++ system_of row ∷ [] ≡ weighted_all (take i systems) ++ weighted item ∷ [] =
-    ap (λ (ss : List Weighted). ss ++ system_of row ∷ []) c.loop-system.invariant.systems ∙ ap (λ (s : Weighted). weighted_all (take i systems) ++ s ∷ []) c.in_ok-row_of.ensures.system in
+    ap (λ (ss : List Weighted). ss ++ system_of row ∷ []) c.loop-system.invariant.systems
+    ∙ ap (λ (s : Weighted). weighted_all (take i systems) ++ s ∷ []) c.in_ok-row_of.ensures.system in
     record {
       systems = ap systems_of pushed ∙ (map-append system_of rows (row ∷ []) ∙ (same ∙ sym more));
-      fresh = subst (All IsFresh) (sym {A = List Row} pushed) (All-push IsFresh rows row c.loop-system.invariant.fresh c.in_ok-row_of.ensures.fresh);
+      fresh = subst (All IsFresh) (sym {A = List Row} pushed)
+          (All-push IsFresh rows row c.loop-system.invariant.fresh c.in_ok-row_of.ensures.fresh);
     }

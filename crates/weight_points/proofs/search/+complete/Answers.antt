@@ -23,18 +23,21 @@ loop-value-init t c =
       rows = refl;
       entries = refl;
       passed = λ b p.
-          let first = c.first_value.ensures (exponent b c.args.place) (plausible_completion rows a c.args.place c.args.from c.requires.ready c.requires.place c.requires.zeros b p) in
+          let first = c.first_value.ensures (exponent b c.args.place)
+          (plausible_completion rows a c.args.place c.args.from c.requires.ready c.requires.place c.requires.zeros b p) in
           let above = p.above in
           omega arith;
     }
 
 -- the systems stay after a value was written
-put_systems : (place value : ℕ) (rows before after : List Row) → before ≡ rows → after ≡ map (spending place value) before → systems_of after ≡ systems_of rows
+put_systems : (place value : ℕ) (rows before after : List Row) → before ≡ rows → after ≡ map (spending place value) before
+    → systems_of after ≡ systems_of rows
 put_systems place value rows before after e f = ap systems_of f ∙ systems_spending place value before ∙ ap systems_of e
 
 pub returns-then-place-entries-clause-systems : goal.returns-then-place-entries-clause-systems
 returns-then-place-entries-clause-systems t c =
-    let put = put_systems c.args.place c.loop-value.value c.args.rows.now c.loop-value.rows c.put.new.rows c.loop-value.invariant.rows c.put.ensures.rows in
+    let put = put_systems c.args.place c.loop-value.value c.args.rows.now c.loop-value.rows c.put.new.rows c.loop-value.invariant.rows
+    c.put.ensures.rows in
     elim c.then-place-entries.branch [
       | then-place-entries-via-then-place-entries w ↦ ap systems_of w.rows-is ∙ put
       | then-place-entries-via-else-place-entries+then-complete w ↦ ap systems_of w.rows-is ∙ (w.complete.ensures.systems ∙ put)
@@ -59,8 +62,10 @@ returns-then-place-entries-clause-completes t c =
           let last : place + 1 ≡ length a = w.if-place-entries.true ∙ (ap length entries_are ∙ length-set a place value) in
           rw here (found_last rows a place from c.requires.ready c.requires.place c.requires.zeros value last least plausible i.passed)
       | then-place-entries-via-else-place-entries+then-complete w ↦
-          let deeper : Completes (systems_of rows) (place + 1) 0 (set a place value) w.complete.new.entries true = rw (systems_are, entries_are) at w.if-complete.ensures.completes in
-          rw w.entries-is (found_deeper rows a place from c.requires.ready c.requires.place c.requires.zeros value w.complete.new.entries least deeper i.passed)
+          let deeper : Completes (systems_of rows) (place + 1) 0 (set a place value) w.complete.new.entries true =
+          rw (systems_are, entries_are) at w.if-complete.ensures.completes in
+          rw w.entries-is (found_deeper rows a place from c.requires.ready c.requires.place c.requires.zeros value w.complete.new.entries
+          least deeper i.passed)
     ]
 
 pub loop-value-preserved : goal.loop-value-preserved
@@ -72,7 +77,8 @@ loop-value-preserved t c =
     let value = c.loop-value.value in
     let i = c.loop-value.invariant in
     let affordable : All (IsAffordable place value) rows =
-    All-weaker (IsAffordable place c.last_value-end.result) (IsAffordable place value) (λ row h. affordable_less place value c.last_value-end.result row (omega arith) h) rows c.last_value-end.ensures.affordable in
+    All-weaker (IsAffordable place c.last_value-end.result) (IsAffordable place value)
+    (λ row h. affordable_less place value c.last_value-end.result row (omega arith) h) rows c.last_value-end.ensures.affordable in
     let zero_there = c.requires.zeros place (omega arith) in
     elim c.if-is_plausible.branch [
       | then-is_plausible+else-place-entries+else-complete w ↦
@@ -81,14 +87,18 @@ loop-value-preserved t c =
           let kept_rows = w.complete.ensures.kept w.if-complete.false ∙ put_rows in
           let kept_entries = w.if-complete.ensures.completes.0 ∙ put_entries in
           let systems_are = put_systems place value rows c.loop-value.rows w.put.new.rows i.rows w.put.ensures.rows in
-          let deeper : Completes (systems_of rows) (place + 1) 0 (set a place value) w.complete.new.entries false = rw (systems_are, put_entries) at w.if-complete.ensures.completes in
+          let deeper : Completes (systems_of rows) (place + 1) 0 (set a place value) w.complete.new.entries false =
+          rw (systems_are, put_entries) at w.if-complete.ensures.completes in
           record {
-            rows = w.rows-is ∙ rows_restored rows a place value c.requires.place zero_there affordable w.complete.new.rows w.clear.new.rows w.complete.new.entries w.clear.result kept_rows kept_entries w.clear.ensures.value w.clear.ensures.rows;
-            entries = w.entries-is ∙ entries_restored rows a place value c.requires.place zero_there affordable w.complete.new.entries w.clear.new.entries kept_entries w.clear.ensures.entries;
+            rows = w.rows-is ∙ rows_restored rows a place value c.requires.place zero_there affordable w.complete.new.rows w.clear.new.rows
+                w.complete.new.entries w.clear.result kept_rows kept_entries w.clear.ensures.value w.clear.ensures.rows;
+            entries = w.entries-is ∙ entries_restored rows a place value c.requires.place zero_there affordable w.complete.new.entries
+                w.clear.new.entries kept_entries w.clear.ensures.entries;
             passed = passed_deeper rows a place from c.requires.ready c.requires.place c.requires.zeros value deeper.1 i.passed;
           }
       | else-is_plausible w ↦
-          let not_plausible : All (IsPlausible place value) rows → ⊥ = λ h. false_is_not_true (w.if-is_plausible.ensures.1 (subst (All (IsPlausible place value)) (sym i.rows) h)) in
+          let not_plausible : All (IsPlausible place value) rows
+          → ⊥ = λ h. false_is_not_true (w.if-is_plausible.ensures.1 (subst (All (IsPlausible place value)) (sym i.rows) h)) in
           record {
             rows = w.rows-is ∙ i.rows;
             entries = w.entries-is ∙ i.entries;
@@ -105,6 +115,7 @@ returns-clause-completes t c =
       λ b p.
           let passed = c.loop-value.invariant.passed b p in
           let small = completion_small rows a place c.args.from c.requires.ready c.requires.place c.requires.zeros b p in
-          let most = c.last_value-end.ensures.greatest (exponent b place) small (plausible_completion rows a place c.args.from c.requires.ready c.requires.place c.requires.zeros b p) in
+          let most = c.last_value-end.ensures.greatest (exponent b place) small
+          (plausible_completion rows a place c.args.from c.requires.ready c.requires.place c.requires.zeros b p) in
           omega arith,
     )

@@ -17,7 +17,9 @@ loop-place-init c = record {
 }
 
 pub returns-then-complete-clause-systems : goal.returns-then-complete-clause-systems
-returns-then-complete-clause-systems c = c.complete.ensures.systems ∙ (ap systems_of c.clear-passed.ensures.rows ∙ systems_returning _ _ c.loop-place.rows ∙ c.loop-place.invariant.systems)
+returns-then-complete-clause-systems c =
+    c.complete.ensures.systems ∙ (ap systems_of c.clear-passed.ensures.rows ∙ systems_returning _ _ c.loop-place.rows
+    ∙ c.loop-place.invariant.systems)
 
 pub returns-then-complete-clause-follows : goal.returns-then-complete-clause-follows
 returns-then-complete-clause-follows c =
@@ -31,9 +33,12 @@ returns-then-complete-clause-follows c =
     let next : m ≡ place + 1 = omega arith in
     let within : place < length old = omega arith in
     let from_is : c.clear-passed.result + 1 ≡ exponent entries place + 1 = ap (λ (n : ℕ). n + 1) c.clear-passed.ensures.value in
-    let systems_are : systems_of c.clear-passed.new.rows ≡ systems = ap systems_of c.clear-passed.ensures.rows ∙ systems_returning _ _ c.loop-place.rows ∙ i.systems in
-    let found : Completes systems place (c.clear-passed.result + 1) a c.complete.new.entries true = rw systems_are at c.if-complete.ensures.completes in
-    found_next systems old entries a m place (c.clear-passed.result + 1) next c.requires.columns within i.agrees c.clear-passed.ensures.entries from_is i.none c.complete.new.entries found
+    let systems_are : systems_of c.clear-passed.new.rows ≡ systems = ap systems_of c.clear-passed.ensures.rows
+    ∙ systems_returning _ _ c.loop-place.rows ∙ i.systems in
+    let found : Completes systems place (c.clear-passed.result + 1) a c.complete.new.entries true =
+    rw systems_are at c.if-complete.ensures.completes in
+    found_next systems old entries a m place (c.clear-passed.result + 1) next c.requires.columns within i.agrees
+    c.clear-passed.ensures.entries from_is i.none c.complete.new.entries found
 
 pub loop-place-preserved : goal.loop-place-preserved
 loop-place-preserved c =
@@ -48,18 +53,23 @@ loop-place-preserved c =
     let next : m ≡ place + 1 = omega arith in
     let within : place < length old = omega arith in
     let from_is : from ≡ exponent entries place + 1 = ap (λ (n : ℕ). n + 1) c.clear-passed.ensures.value in
-    let systems_are : systems_of c.clear-passed.new.rows ≡ systems = ap systems_of c.clear-passed.ensures.rows ∙ systems_returning _ _ c.loop-place.rows ∙ i.systems in
+    let systems_are : systems_of c.clear-passed.new.rows ≡ systems = ap systems_of c.clear-passed.ensures.rows
+    ∙ systems_returning _ _ c.loop-place.rows ∙ i.systems in
     let found : Completes systems place from a c.complete.new.entries false = rw systems_are at c.if-complete.ensures.completes in
     let kept = found.0 in
     let same : length entries ≡ length old = omega arith in
     record {
       systems = c.complete.ensures.systems ∙ systems_are;
       ready = c.complete.ensures.ready;
-      zeros = rw kept (zeros_from systems old entries a m place from next c.requires.columns within i.agrees c.clear-passed.ensures.entries from_is i.none same i.zeros);
-      agrees = rw kept (agrees_before systems old entries a m place from next c.requires.columns within i.agrees c.clear-passed.ensures.entries from_is i.none);
-      none = none_before systems old entries a m place from next c.requires.columns within i.agrees c.clear-passed.ensures.entries from_is i.none found.1;
+      zeros = rw kept (zeros_from systems old entries a m place from next c.requires.columns within i.agrees c.clear-passed.ensures.entries
+          from_is i.none same i.zeros);
+      agrees = rw kept (agrees_before systems old entries a m place from next c.requires.columns within i.agrees
+          c.clear-passed.ensures.entries from_is i.none);
+      none = none_before systems old entries a m place from next c.requires.columns within i.agrees c.clear-passed.ensures.entries from_is
+          i.none found.1;
     }
 
 pub returns-clause-follows : goal.returns-clause-follows
 returns-clause-follows c =
-    none_follows (systems_of c.args.rows.now) c.args.entries.now (λ b solves h. c.loop-place.invariant.none b solves (λ i l. absurd (omega arith)) h)
+    none_follows (systems_of c.args.rows.now) c.args.entries.now
+    (λ b solves h. c.loop-place.invariant.none b solves (λ i l. absurd (omega arith)) h)

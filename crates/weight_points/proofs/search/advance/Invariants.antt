@@ -11,5 +11,6 @@ invariant-loop-place l = record {
   ready : AreRows l.rows l.entries;
   zeros : IsZeroFrom l.place l.entries;
   agrees : AgreesTo l.place (map pos l.fn.entries) (map pos l.entries);
-  none : (b : List ℕ) → Solves (systems_of l.fn.rows) b → AgreesTo l.place (map pos l.fn.entries) (map pos b) → LexLess (map pos l.fn.entries) (map pos b) → ⊥;
+  none : (b : List ℕ) → Solves (systems_of l.fn.rows) b → AgreesTo l.place (map pos l.fn.entries) (map pos b)
+      → LexLess (map pos l.fn.entries) (map pos b) → ⊥;
 }

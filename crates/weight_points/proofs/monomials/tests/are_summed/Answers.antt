@@ -14,10 +14,14 @@ loop-system-preserved c =
     let item = c.system-item.result in
     let known = c.if-not-is_summed.ensures in
     let more : weighted_all (take (i + 1) systems) ≡ weighted_all (take i systems) ++ weighted item ∷ [] =
-    map_more weighted systems i item c.loop-system-test.true ∙ ap (λ (s : WeightSystem). weighted_all (take i systems) ++ weighted s ∷ []) (sym c.system-item.is) in
+    map_more weighted systems i item c.loop-system-test.true ∙ ap (λ (s : WeightSystem). weighted_all (take i systems) ++ weighted s ∷ [])
+    (sym c.system-item.is) in
     record {
-      summed = subst (All (IsSummed c.args.count)) (sym more) (All-push (IsSummed c.args.count) (weighted_all (take i systems)) (weighted item) c.loop-system.invariant.summed (known.summed refl));
-      small = subst (All (λ s. s.degree ≤ MOST_DEGREE)) (sym more) (All-push (λ (s : Weighted). s.degree ≤ MOST_DEGREE) (weighted_all (take i systems)) (weighted item) c.loop-system.invariant.small (known.small refl));
+      summed = subst (All (IsSummed c.args.count)) (sym more) (All-push (IsSummed c.args.count) (weighted_all (take i systems))
+          (weighted item) c.loop-system.invariant.summed (known.summed refl));
+      small = subst (All (λ s. s.degree ≤ MOST_DEGREE)) (sym more)
+          (All-push (λ (s : Weighted). s.degree ≤ MOST_DEGREE) (weighted_all (take i systems)) (weighted item) c.loop-system.invariant.small
+          (known.small refl));
     }
 
 pub returns-clause-summed : goal.returns-clause-summed

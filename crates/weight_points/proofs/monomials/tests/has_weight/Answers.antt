@@ -12,6 +12,10 @@ returns-then-index-gt0 c = λ h.
     let weight = c.index.ensures ∙ get_or_default item.weights.items c.args.place c.index.result.now 0 (omega arith) in
     record {
       system = weighted item;
-      member = contains_from_in (in_map weighted (in_from_contains c.args.systems.now (c.loop-system.system-index, c.loop-system-test.true, sym c.system-item.is)));
+      member = contains_from_in (in_map weighted (in_from_contains c.args.systems.now (
+        c.loop-system.system-index,
+        c.loop-system-test.true,
+        sym c.system-item.is,
+      )));
       positive = omega arith;
     }

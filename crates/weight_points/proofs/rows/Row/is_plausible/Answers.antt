@@ -17,7 +17,8 @@ index-requires-2 c =
     let weight = h.weight in
     let within : k < length (tables_of row) = omega arith in
     let table_is : get_or (tables_of row) k [] ≡ r.items =
-    get_or_default (tables_of row) k [] r.items within ∙ (get_or-map (λ (reach : Vec Bool Global). reach.items) row.reaches.items k r ∙ ap (λ (reach : Vec Bool Global). reach.items) (sym c.index-reach.ensures)) in
+    get_or_default (tables_of row) k [] r.items within ∙ (get_or-map (λ (reach : Vec Bool Global). reach.items) row.reaches.items k r
+    ∙ ap (λ (reach : Vec Bool Global). reach.items) (sym c.index-reach.ensures)) in
     let long : length (get_or (tables_of row) k []) ≡ row.system.degree + 1 = h.reaches.rows k (omega arith) in
     let long' = rw table_is at long in
     let most = h.within in
@@ -36,14 +37,16 @@ returns c =
     let weight_there = h.weight in
     let within : k < length (tables_of row) = omega arith in
     let table_is : get_or (tables_of row) k [] ≡ r.items =
-    get_or_default (tables_of row) k [] r.items within ∙ (get_or-map (λ (reach : Vec Bool Global). reach.items) row.reaches.items k r ∙ ap (λ (reach : Vec Bool Global). reach.items) (sym c.index-reach.ensures)) in
+    get_or_default (tables_of row) k [] r.items within ∙ (get_or-map (λ (reach : Vec Bool Global). reach.items) row.reaches.items k r
+    ∙ ap (λ (reach : Vec Bool Global). reach.items) (sym c.index-reach.ensures)) in
     let long : length (get_or (tables_of row) k []) ≡ row.system.degree + 1 = h.reaches.rows k (omega arith) in
     let long' = rw table_is at long in
     let most = h.within in
     let weight : c.index.result.now ≡ weight_at row place = c.index.ensures ∙ get_or_default row.system.weights.items place _ 0 h.weight in
     let left = row.left - value * c.index.result.now in
     let behind : length row.system.weights.items - k ≡ suc place = omega arith in
-    let reach : IsReach (drop (length row.system.weights.items - k) row.system.weights.items) (get_or (tables_of row) k []) = h.reaches.each k (omega arith) in
+    let reach : IsReach (drop (length row.system.weights.items - k) row.system.weights.items) (get_or (tables_of row) k []) =
+    h.reaches.each k (omega arith) in
     let reach' : IsReach (drop (suc place) row.system.weights.items) r.items = rw (behind, table_is) at reach in
     let at = reach' left (omega arith) in
     let answer : c.index-2.result.now ≡ get_or r.items left false = c.index-2.ensures ∙ get_or_default r.items left _ false (omega arith) in
