@@ -28,17 +28,22 @@ pub vanishes_at : (k p : List ℤ) (f : Affine) → f.normal ≡ k → f.constan
 vanishes_at k p f n c = ap₂ (λ (x : List ℤ) (z : ℤ). dot x p +ℤ z) n c ∙ less_itself (dot k p)
 
 -- and at all points, where the member annihilates their differences
-pub member_vanishes : (n : ℕ) (points : List (List ℤ)) (first k : List ℤ) (f : Affine) → HaveDimension n points → first ≡ get_or points 0 first → Annihilates (differences points) k → f.normal ≡ k → f.constant ≡ neg_ℤ (dot k first) → Vanishes points f
+pub member_vanishes : (n : ℕ) (points : List (List ℤ)) (first k : List ℤ) (f : Affine) → HaveDimension n points
+    → first ≡ get_or points 0 first → Annihilates (differences points) k → f.normal ≡ k → f.constant ≡ neg_ℤ (dot k first)
+    → Vanishes points f
 member_vanishes n [] first k f d e a m c = λ i x h. absurd (omega arith)
-member_vanishes n (p ∷ points) first k f d e a m c = vanishes_from_differences n p points f d (subst (λ (q : List ℤ). value f q ≡ pos 0) e (vanishes_at k first f m c)) (rw m a)
+member_vanishes n (p ∷ points) first k f d e a m c =
+    vanishes_from_differences n p points f d (subst (λ (q : List ℤ). value f q ≡ pos 0) e (vanishes_at k first f m c)) (rw m a)
 
 -- the first point is a point
 pub first_member : (points : List (List ℤ)) (first : List ℤ) → 0 < length points → first ≡ get_or points 0 first → Contains points first
 first_member points first h e = (0, h, sym e)
 
 -- with one member, its function is fixed by the points
-pub single_fixed : (n : ℕ) (points : List (List ℤ)) (first : List ℤ) (ks : List Member) (k : Member) (f : Affine) → HaveDimension n points → 0 < length points → first ≡ get_or points 0 first
-    → IsPrimitiveKernel n (differences points) ks → ks ≡ k ∷ [] → f.normal ≡ k.vector → f.constant ≡ neg_ℤ (dot k.vector first) → IsFixedBy n points f
+pub single_fixed : (n : ℕ) (points : List (List ℤ)) (first : List ℤ) (ks : List Member) (k : Member) (f : Affine) → HaveDimension n points
+    → 0 < length points → first ≡ get_or points 0 first
+    → IsPrimitiveKernel n (differences points) ks → ks ≡ k ∷ [] → f.normal ≡ k.vector → f.constant ≡ neg_ℤ (dot k.vector first)
+    → IsFixedBy n points f
 single_fixed n points first ks k f d some e kernel only m c =
     let single = subst (IsPrimitiveKernel n (differences points)) only kernel in
     let vanishes = member_vanishes n points first k.vector f d e (single.kernel.annihilate 0 k (omega arith)) m c in
@@ -47,7 +52,8 @@ single_fixed n points first ks k f d some e kernel only m c =
       dimension = ap length m ∙ single.kernel.lengths 0 k (omega arith);
       primitive = rw m (single.primitive 0 k (omega arith));
       vanishes = vanishes;
-      determined = λ g l v. multiple_from_normals g f first (All-contains (λ p. value g p ≡ pos 0) points first v (first_member points first some e)) at_first
+      determined = λ g l v. multiple_from_normals g f first
+          (All-contains (λ p. value g p ≡ pos 0) points first v (first_member points first some e)) at_first
           (rw m (single_kernel_lem n (differences points) k single.kernel g.normal l (annihilates_differences n points g d v)));
     }
 
@@ -60,7 +66,8 @@ itself : (x : List ℤ) → IsVectorMultiple x x
 itself x = record { left = pos 1; right = pos 1; nonzero = positive_nonzero (pos 1) (omega (arith, linear)); same = refl }
 
 -- with two members or more, two functions vanish
-pub several_functions : (n : ℕ) (points : List (List ℤ)) (first : List ℤ) (ks : List Member) → HaveDimension n points → first ≡ get_or points 0 first → IsPrimitiveKernel n (differences points) ks → 2 ≤ length ks → HasTwoFunctions n points
+pub several_functions : (n : ℕ) (points : List (List ℤ)) (first : List ℤ) (ks : List Member) → HaveDimension n points
+    → first ≡ get_or points 0 first → IsPrimitiveKernel n (differences points) ks → 2 ≤ length ks → HasTwoFunctions n points
 several_functions n points first [] d e kernel h = absurd (omega arith)
 several_functions n points first (k ∷ []) d e kernel h = absurd (omega arith)
 several_functions n points first (k ∷ (l ∷ ks)) d e kernel h = record {
@@ -68,15 +75,20 @@ several_functions n points first (k ∷ (l ∷ ks)) d e kernel h = record {
   other = through l.vector first;
   dimension_one = kernel.kernel.lengths 0 k (omega arith);
   dimension_other = kernel.kernel.lengths 1 l (omega arith);
-  vanishes_one = member_vanishes n points first k.vector (through k.vector first) d e (kernel.kernel.annihilate 0 k (omega arith)) refl refl;
-  vanishes_other = member_vanishes n points first l.vector (through l.vector first) d e (kernel.kernel.annihilate 1 l (omega arith)) refl refl;
-  not_multiple = λ m. large_kernel_lem n (differences points) k l ks kernel.kernel l.vector (normals_from_multiple (through k.vector first) (through l.vector first) m) (itself l.vector);
-  not_multiple_back = λ m. large_kernel_lem n (differences points) k l ks kernel.kernel k.vector (itself k.vector) (normals_from_multiple (through l.vector first) (through k.vector first) m);
+  vanishes_one = member_vanishes n points first k.vector (through k.vector first) d e (kernel.kernel.annihilate 0 k (omega arith))
+      refl refl;
+  vanishes_other = member_vanishes n points first l.vector (through l.vector first) d e (kernel.kernel.annihilate 1 l (omega arith))
+      refl refl;
+  not_multiple = λ m. large_kernel_lem n (differences points) k l ks kernel.kernel l.vector
+      (normals_from_multiple (through k.vector first) (through l.vector first) m) (itself l.vector);
+  not_multiple_back = λ m. large_kernel_lem n (differences points) k l ks kernel.kernel k.vector (itself k.vector)
+      (normals_from_multiple (through l.vector first) (through k.vector first) m);
 }
 
 -- a multiple by 0 of vectors of one length
 zero_multiples : (x y : List ℤ) → length x ≡ length y → scaled (pos 0) x ≡ scaled (pos 0) y
-zero_multiples x y e = same_from_entries (scaled (pos 0) x) (scaled (pos 0) y) (length-scaled (pos 0) x ∙ e ∙ sym (length-scaled (pos 0) y)) (λ i. entry-scaled (pos 0) x i ∙ zero-*ℤ (entry x i) ∙ sym (zero-*ℤ (entry y i)) ∙ sym (entry-scaled (pos 0) y i))
+zero_multiples x y e = same_from_entries (scaled (pos 0) x) (scaled (pos 0) y) (length-scaled (pos 0) x ∙ e ∙ sym (length-scaled (pos 0) y))
+    (λ i. entry-scaled (pos 0) x i ∙ zero-*ℤ (entry x i) ∙ sym (zero-*ℤ (entry y i)) ∙ sym (entry-scaled (pos 0) y i))
 
 -- where all are multiples of one, there are no two functions
 pub not_several : (n : ℕ) (points : List (List ℤ)) (f : Affine) → IsFixedBy n points f → HasTwoFunctions n points → ⊥
@@ -88,7 +100,8 @@ not_several n points f fixed two =
       left = a.left;
       right = pos 0;
       nonzero = a.nonzero;
-      normals = a.normals ∙ ap (λ (q : ℤ). scaled q f.normal) z ∙ zero_multiples f.normal two.other.normal (fixed.dimension ∙ sym two.dimension_other);
+      normals = a.normals ∙ ap (λ (q : ℤ). scaled q f.normal) z ∙ zero_multiples f.normal two.other.normal
+          (fixed.dimension ∙ sym two.dimension_other);
       constants = a.constants ∙ ap (λ (q : ℤ). q *ℤ f.constant) z ∙ zero-*ℤ f.constant ∙ sym (zero-*ℤ two.other.constant);
     }))
     (λ (u : a.right ≢ pos 0). two.not_multiple_back (record {
@@ -96,7 +109,8 @@ not_several n points f fixed two =
       right = b.right *ℤ a.left;
       nonzero = product_nonzero a.right b.left u b.nonzero;
       normals = sym (scaled-scaled a.right b.left two.other.normal) ∙ ap (scaled a.right) b.normals ∙ scaled-scaled a.right b.right f.normal
-          ∙ ap (λ (q : ℤ). scaled q f.normal) (*ℤ_comm a.right b.right) ∙ sym (scaled-scaled b.right a.right f.normal) ∙ ap (scaled b.right) (sym a.normals) ∙ scaled-scaled b.right a.left two.one.normal;
+          ∙ ap (λ (q : ℤ). scaled q f.normal) (*ℤ_comm a.right b.right) ∙ sym (scaled-scaled b.right a.right f.normal)
+          ∙ ap (scaled b.right) (sym a.normals) ∙ scaled-scaled b.right a.left two.one.normal;
       constants = crossed a.left a.right b.left b.right two.one.constant two.other.constant f.constant a.constants b.constants;
     }))
     (zero_or_not a.right)
@@ -108,8 +122,10 @@ not_several n points f fixed two =
         simp products_out (omega (arith, linear))
 
 -- the opposite function's values
-pub opposite_value : (f g : Affine) (p : List ℤ) → g.normal ≡ scaled (negsuc 0) f.normal → g.constant ≡ neg_ℤ f.constant → value g p ≡ neg_ℤ (value f p)
-opposite_value f g p m c = ap₂ (λ (x : List ℤ) (z : ℤ). dot x p +ℤ z) m c ∙ ap (λ (z : ℤ). z +ℤ neg_ℤ f.constant) (dot-scaled_left (negsuc 0) f.normal p ∙ minus_one-*ℤ (dot f.normal p)) ∙ both_neg (dot f.normal p) f.constant
+pub opposite_value : (f g : Affine) (p : List ℤ) → g.normal ≡ scaled (negsuc 0) f.normal → g.constant ≡ neg_ℤ f.constant
+    → value g p ≡ neg_ℤ (value f p)
+opposite_value f g p m c = ap₂ (λ (x : List ℤ) (z : ℤ). dot x p +ℤ z) m c ∙ ap (λ (z : ℤ). z +ℤ neg_ℤ f.constant)
+    (dot-scaled_left (negsuc 0) f.normal p ∙ minus_one-*ℤ (dot f.normal p)) ∙ both_neg (dot f.normal p) f.constant
   where
     both_neg : (a b : ℤ) → neg_ℤ a +ℤ neg_ℤ b ≡ neg_ℤ (a +ℤ b)
     both_neg a b = omega (arith, linear)
@@ -118,15 +134,18 @@ opposite_value f g p m c = ap₂ (λ (x : List ℤ) (z : ℤ). dot x p +ℤ z) m
 pub opposite_primitive : (x : List ℤ) → IsPrimitive x → IsPrimitive (scaled (negsuc 0) x)
 opposite_primitive x h =
     let c = primitive_combination x h in
-    primitive_from_combination (scaled (negsuc 0) c.0) (scaled (negsuc 0) x) (dot-scaled_left (negsuc 0) c.0 (scaled (negsuc 0) x) ∙ ap (λ (z : ℤ). negsuc 0 *ℤ z) (dot-scaled_right (negsuc 0) c.0 x ∙ ap (λ (z : ℤ). negsuc 0 *ℤ z) c.1))
+    primitive_from_combination (scaled (negsuc 0) c.0) (scaled (negsuc 0) x) (dot-scaled_left (negsuc 0) c.0 (scaled (negsuc 0) x)
+    ∙ ap (λ (z : ℤ). negsuc 0 *ℤ z) (dot-scaled_right (negsuc 0) c.0 x ∙ ap (λ (z : ℤ). negsuc 0 *ℤ z) c.1))
 
 -- a multiple of a function is one of the opposite function
-pub opposite_multiple : (f g h : Affine) → g.normal ≡ scaled (negsuc 0) f.normal → g.constant ≡ neg_ℤ f.constant → IsMultiple h f → IsMultiple h g
+pub opposite_multiple : (f g h : Affine) → g.normal ≡ scaled (negsuc 0) f.normal → g.constant ≡ neg_ℤ f.constant → IsMultiple h f
+    → IsMultiple h g
 opposite_multiple f g h m c a = record {
   left = a.left;
   right = neg_ℤ a.right;
   nonzero = a.nonzero;
-  normals = a.normals ∙ ap (λ (q : ℤ). scaled q f.normal) (twice a.right) ∙ sym (scaled-scaled (neg_ℤ a.right) (negsuc 0) f.normal) ∙ ap (scaled (neg_ℤ a.right)) (sym m);
+  normals = a.normals ∙ ap (λ (q : ℤ). scaled q f.normal) (twice a.right) ∙ sym (scaled-scaled (neg_ℤ a.right) (negsuc 0) f.normal)
+      ∙ ap (scaled (neg_ℤ a.right)) (sym m);
   constants = a.constants ∙ both a.right f.constant ∙ ap (λ (z : ℤ). neg_ℤ a.right *ℤ z) (sym c);
 }
   where
@@ -137,11 +156,13 @@ opposite_multiple f g h m c a = record {
     both q z = simp products_out (omega (arith, linear))
 
 -- so the opposite of a function that is fixed is fixed
-pub opposite_fixed : (n : ℕ) (points : List (List ℤ)) (f g : Affine) → IsFixedBy n points f → g.normal ≡ scaled (negsuc 0) f.normal → g.constant ≡ neg_ℤ f.constant → IsFixedBy n points g
+pub opposite_fixed : (n : ℕ) (points : List (List ℤ)) (f g : Affine) → IsFixedBy n points f → g.normal ≡ scaled (negsuc 0) f.normal
+    → g.constant ≡ neg_ℤ f.constant → IsFixedBy n points g
 opposite_fixed n points f g fixed m c = record {
   dimension = ap length m ∙ length-scaled (negsuc 0) f.normal ∙ fixed.dimension;
   primitive = rw m (opposite_primitive f.normal fixed.primitive);
-  vanishes = All-weaker (λ p. value f p ≡ pos 0) (λ p. value g p ≡ pos 0) (λ p z. opposite_value f g p m c ∙ ap neg_ℤ z) points fixed.vanishes;
+  vanishes = All-weaker (λ p. value f p ≡ pos 0) (λ p. value g p ≡ pos 0) (λ p z. opposite_value f g p m c ∙ ap neg_ℤ z)
+      points fixed.vanishes;
   determined = λ h l v. opposite_multiple f g h m c (fixed.determined h l v);
 }
 
@@ -163,7 +184,8 @@ first_deeper a x e h = record { place = suc h.place; nonzero = h.nonzero; zeros 
 first_entry : (x : List ℤ) → ((i : ℕ) → entry x i ≡ pos 0) ⊎ FirstEntry x
 first_entry [] = inl (λ i. refl)
 first_entry (a ∷ x) = ⊎_elim
-    (λ (e : a ≡ pos 0). ⊎_elim (λ (z : (i : ℕ) → entry x i ≡ pos 0). inl (λ i. none e z i)) (λ (h : FirstEntry x). inr (first_deeper a x e h)) (first_entry x))
+    (λ (e : a ≡ pos 0). ⊎_elim (λ (z : (i : ℕ) → entry x i ≡ pos 0). inl (λ i. none e z i))
+    (λ (h : FirstEntry x). inr (first_deeper a x e h)) (first_entry x))
     (λ (u : a ≢ pos 0). inr (record { place = 0; nonzero = u; zeros = λ j l. absurd (omega arith) }))
     (zero_or_not a)
   where
@@ -177,19 +199,26 @@ opposite_starts x y p n e = ⊎_elim
     (λ (z : (i : ℕ) → entry x i ≡ pos 0). absurd (primitive_nonzero x p (zero_from_entries x z)))
     (λ (h : FirstEntry x). ⊎_elim
     (λ (up : pos 0 <ℤ entry x h.place). absurd (n (record { place = h.place; positive = up; zeros = h.zeros })))
-    (λ (down : pos 0 <ℤ neg_ℤ (entry x h.place)). record { place = h.place; positive = rw (e, entry-scaled (negsuc 0) x h.place, minus_one-*ℤ) down; zeros = λ j l. ap (λ (z : List ℤ). entry z j) e ∙ entry-scaled (negsuc 0) x j ∙ ap (λ (z : ℤ). negsuc 0 *ℤ z) (h.zeros j l) })
+    (λ (down : pos 0 <ℤ neg_ℤ (entry x h.place)). record {
+      place = h.place;
+      positive = rw (e, entry-scaled (negsuc 0) x h.place, minus_one-*ℤ) down;
+      zeros = λ j l. ap (λ (z : List ℤ). entry z j) e ∙ entry-scaled (negsuc 0) x j ∙ ap (λ (z : ℤ). negsuc 0 *ℤ z) (h.zeros j l);
+    })
     (positive_or_negative (entry x h.place) h.nonzero))
     (first_entry x)
 
 -- with no member the points aren't flat
-pub none_not_flat : (n : ℕ) (points : List (List ℤ)) (ks : List Member) → HaveDimension n points → IsPrimitiveKernel n (differences points) ks → ks ≡ [] → IsFlat n points → ⊥
+pub none_not_flat : (n : ℕ) (points : List (List ℤ)) (ks : List Member) → HaveDimension n points
+    → IsPrimitiveKernel n (differences points) ks → ks ≡ [] → IsFlat n points → ⊥
 none_not_flat n points ks d kernel e flat =
     let empty_one = subst (IsPrimitiveKernel n (differences points)) e kernel in
-    let zeros = empty_kernel_lem n (differences points) empty_one.kernel flat.function.normal flat.dimension (annihilates_differences n points flat.function d flat.vanishes) in
+    let zeros = empty_kernel_lem n (differences points) empty_one.kernel flat.function.normal flat.dimension
+    (annihilates_differences n points flat.function d flat.vanishes) in
     flat.nonconstant.1 (entries_from_zero flat.function.normal zeros flat.nonconstant.0)
 
 -- otherwise the first member gives the flat function
-pub first_flat : (n : ℕ) (points : List (List ℤ)) (first : List ℤ) (ks : List Member) (k : Member) (f : Affine) → HaveDimension n points → first ≡ get_or points 0 first → IsPrimitiveKernel n (differences points) ks → 1 ≤ length ks → k ≡ get_or ks 0 k
+pub first_flat : (n : ℕ) (points : List (List ℤ)) (first : List ℤ) (ks : List Member) (k : Member) (f : Affine) → HaveDimension n points
+    → first ≡ get_or points 0 first → IsPrimitiveKernel n (differences points) ks → 1 ≤ length ks → k ≡ get_or ks 0 k
     → f.normal ≡ k.vector → f.constant ≡ neg_ℤ (dot k.vector first) → IsFlatFunction n points f
 first_flat n points first [] k f d e kernel h ek m c = absurd (omega arith)
 first_flat n points first (l ∷ ks) k f d e kernel h ek m c =
@@ -203,7 +232,8 @@ first_flat n points first (l ∷ ks) k f d e kernel h ek m c =
       place = l.own;
       ends = rw normal (kernel.kernel.ends 0 l (omega arith));
       positive = rw normal (kernel.kernel.own_positive 0 l (omega arith));
-      earliest = λ g j dimension v ends. (kernel_earliest_lem n (differences points) l ks kernel.kernel later g.normal dimension (annihilates_differences n points g d v) j ends).0;
+      earliest = λ g j dimension v ends. (kernel_earliest_lem n (differences points) l ks kernel.kernel later g.normal dimension
+          (annihilates_differences n points g d v) j ends).0;
     }
 
 -- a list of one member
@@ -218,12 +248,14 @@ no_member [] h = refl
 no_member (k ∷ ks) h = absurd (omega arith)
 
 -- the entries of the first member
-pub first_entries : (items ks : List Member) (k : Member) (x : List ℤ) → ks ≡ items → 0 < length ks → k ≡ get_or ks 0 k → x ≡ k.vector → All (λ m. All (λ a. nat_abs a < 2 ^ 63) m.vector) items → All (λ a. nat_abs a < 2 ^ 63) x
+pub first_entries : (items ks : List Member) (k : Member) (x : List ℤ) → ks ≡ items → 0 < length ks → k ≡ get_or ks 0 k → x ≡ k.vector
+    → All (λ m. All (λ a. nat_abs a < 2 ^ 63) m.vector) items → All (λ a. nat_abs a < 2 ^ 63) x
 first_entries items ks k x e h ek ex small =
     let here = subst (All (λ m. All (λ a. nat_abs a < 2 ^ 63) m.vector)) (sym e) small 0 k h in
     subst (All (λ a. nat_abs a < 2 ^ 63)) (ap (λ (m : Member). m.vector) (sym ek) ∙ sym ex) here
 
 -- the same without a name for the first point
-pub two_functions : (n : ℕ) (points : List (List ℤ)) (ks : List Member) → 0 < length points → HaveDimension n points → IsPrimitiveKernel n (differences points) ks → 2 ≤ length ks → HasTwoFunctions n points
+pub two_functions : (n : ℕ) (points : List (List ℤ)) (ks : List Member) → 0 < length points → HaveDimension n points
+    → IsPrimitiveKernel n (differences points) ks → 2 ≤ length ks → HasTwoFunctions n points
 two_functions n [] ks h d kernel l = absurd (omega arith)
 two_functions n (p ∷ points) ks h d kernel l = several_functions n (p ∷ points) p ks d refl kernel l

@@ -19,30 +19,44 @@ use Rattle.lattice_core.proofs.SizeLimits.{limit_positive}
 
 -- the pivots are as small as the vectors
 pivots_small : (n : ℕ) (ks : List Member) (h : IsSmallKernel n ks) → All (λ v. absolute_sum v ≤ 2 * size_limit_of n) h.is_kernel.pivots
-pivots_small n ks h = All-weaker (Contains h.is_kernel.pivots) (λ v. absolute_sum v ≤ 2 * size_limit_of n) (λ v c. All-contains (λ w. absolute_sum w ≤ 2 * size_limit_of n) h.vectors v h.small (h.is_kernel.are_pivots.chosen v c)) h.is_kernel.pivots (All-contains_itself h.is_kernel.pivots)
+pivots_small n ks h = All-weaker (Contains h.is_kernel.pivots) (λ v. absolute_sum v ≤ 2 * size_limit_of n)
+    (λ v c. All-contains (λ w. absolute_sum w ≤ 2 * size_limit_of n) h.vectors v h.small (h.is_kernel.are_pivots.chosen v c))
+    h.is_kernel.pivots (All-contains_itself h.is_kernel.pivots)
 
 -- a member is primitive
-member_primitive : (n : ℕ) (vs : List (List ℤ)) (ks : List Member) → IsPrimitiveKernel n vs ks → (k : Member) → Contains ks k → IsPrimitive k.vector
+member_primitive : (n : ℕ) (vs : List (List ℤ)) (ks : List Member) → IsPrimitiveKernel n vs ks → (k : Member) → Contains ks k
+    → IsPrimitive k.vector
 member_primitive n vs ks h k c = All-contains (λ l. IsPrimitive l.vector) ks k h.primitive c
 
 -- its length
-pub member_length : (n : ℕ) (vs : List (List ℤ)) (ks : List Member) → IsPrimitiveKernel n vs ks → (k : Member) → Contains ks k → length k.vector ≡ n
+pub member_length : (n : ℕ) (vs : List (List ℤ)) (ks : List Member) → IsPrimitiveKernel n vs ks → (k : Member) → Contains ks k
+    → length k.vector ≡ n
 member_length n vs ks h k c = All-contains (λ l. length l.vector ≡ n) ks k h.kernel.lengths c
 
 -- its entries and its values
-pub member_entries : (n : ℕ) (ks : List Member) → 1 ≤ n → n ≤ 6 → IsSmallKernel n ks → (k : Member) → Contains ks k → All (λ a. nat_abs a < 2 ^ 63) k.vector
-member_entries n ks a b h k c = (members_fit_lem n (size_limit_of n) h.vectors h.is_kernel.pivots ks (limit_positive n a b) (omega arith) h.is_kernel.are_pivots (pivots_small n ks h) k c (member_primitive n h.vectors ks h.is_kernel k c)).0
+pub member_entries : (n : ℕ) (ks : List Member) → 1 ≤ n → n ≤ 6 → IsSmallKernel n ks → (k : Member) → Contains ks k
+    → All (λ a. nat_abs a < 2 ^ 63) k.vector
+member_entries n ks a b h k c =
+    (members_fit_lem n (size_limit_of n) h.vectors h.is_kernel.pivots ks (limit_positive n a b) (omega arith) h.is_kernel.are_pivots
+    (pivots_small n ks h) k c (member_primitive n h.vectors ks h.is_kernel k c)).0
 
 -- the values at a difference
-pub member_value : (n : ℕ) (ks : List Member) → 1 ≤ n → n ≤ 6 → IsSmallKernel n ks → (k : Member) → Contains ks k → (v : List ℤ) → absolute_sum v ≤ 2 * size_limit_of n → nat_abs (dot k.vector v) < 2 ^ 76
-member_value n ks a b h k c v w = (members_fit_lem n (size_limit_of n) h.vectors h.is_kernel.pivots ks (limit_positive n a b) (omega arith) h.is_kernel.are_pivots (pivots_small n ks h) k c (member_primitive n h.vectors ks h.is_kernel k c)).1 v w
+pub member_value : (n : ℕ) (ks : List Member) → 1 ≤ n → n ≤ 6 → IsSmallKernel n ks → (k : Member) → Contains ks k → (v : List ℤ)
+    → absolute_sum v ≤ 2 * size_limit_of n → nat_abs (dot k.vector v) < 2 ^ 76
+member_value n ks a b h k c v w =
+    (members_fit_lem n (size_limit_of n) h.vectors h.is_kernel.pivots ks (limit_positive n a b) (omega arith) h.is_kernel.are_pivots
+    (pivots_small n ks h) k c (member_primitive n h.vectors ks h.is_kernel k c)).1 v w
 
 -- the products of a step
-member_products : (n : ℕ) (ks : List Member) → 1 ≤ n → n ≤ 6 → IsSmallKernel n ks → 2 ≤ length ks → (k l : Member) → Contains ks k → Contains ks l → (v : List ℤ) → absolute_sum v ≤ 2 * size_limit_of n → All (λ a. nat_abs (dot k.vector v *ℤ a) < 2 ^ 126) l.vector
-member_products n ks a b h t k l c d v w = step_products_fit_lem n (size_limit_of n) h.vectors h.is_kernel.pivots ks (limit_positive n a b) (omega arith) h.is_kernel.are_pivots (pivots_small n ks h) t k l c d (member_primitive n h.vectors ks h.is_kernel k c) (member_primitive n h.vectors ks h.is_kernel l d) v w
+member_products : (n : ℕ) (ks : List Member) → 1 ≤ n → n ≤ 6 → IsSmallKernel n ks → 2 ≤ length ks → (k l : Member) → Contains ks k
+    → Contains ks l → (v : List ℤ) → absolute_sum v ≤ 2 * size_limit_of n → All (λ a. nat_abs (dot k.vector v *ℤ a) < 2 ^ 126) l.vector
+member_products n ks a b h t k l c d v w = step_products_fit_lem n (size_limit_of n) h.vectors h.is_kernel.pivots ks (limit_positive n a b)
+    (omega arith) h.is_kernel.are_pivots (pivots_small n ks h) t k l c d (member_primitive n h.vectors ks h.is_kernel k c)
+    (member_primitive n h.vectors ks h.is_kernel l d) v w
 
 -- a member behind another has the entry 0 at its own place in it
-apart_behind : (before : List Member) (p : Member) (after : List Member) → AreApart (before ++ (p ∷ after)) → (k : Member) → Contains after k → entry p.vector k.own ≡ pos 0
+apart_behind : (before : List Member) (p : Member) (after : List Member) → AreApart (before ++ (p ∷ after)) → (k : Member)
+    → Contains after k → entry p.vector k.own ≡ pos 0
 apart_behind [] p after h k c = (All-contains (λ l. (entry p.vector l.own ≡ pos 0) × (entry l.vector p.own ≡ pos 0)) after k h.0 c).0
 apart_behind (b ∷ before) p after h k c = apart_behind before p after h.1 k c
 
@@ -59,7 +73,8 @@ two_members : (before : List Member) (p : Member) (after : List Member) (k : Mem
 two_members before p after k c = let l = c.1 in let e = length-append before (p ∷ after) in omega arith
 
 -- so a member behind the pivot can be reduced
-pub can_reduce : (n : ℕ) (before : List Member) (p : Member) (after : List Member) (v : List ℤ) → 1 ≤ n → n ≤ 6 → IsSmallKernel n (before ++ (p ∷ after)) → absolute_sum v ≤ 2 * size_limit_of n → dot p.vector v ≢ pos 0
+pub can_reduce : (n : ℕ) (before : List Member) (p : Member) (after : List Member) (v : List ℤ) → 1 ≤ n → n ≤ 6
+    → IsSmallKernel n (before ++ (p ∷ after)) → absolute_sum v ≤ 2 * size_limit_of n → dot p.vector v ≢ pos 0
     → (k : Member) → Contains after k → CanReduce p (dot p.vector v) k (dot k.vector v)
 can_reduce n before p after v a b h w u k c =
     let ks = before ++ (p ∷ after) in
@@ -85,7 +100,14 @@ can_reduce n before p after v a b h w u k c =
 
 -- the step's member, with the values at the vector
 pub reduced_at : (p k l : Member) (v : List ℤ) → IsReducedBy p (dot p.vector v) k (dot k.vector v) l → IsReduced p v k l
-reduced_at p k l v h = record { own = h.own; dimension = h.dimension; positive = h.positive; factor = h.factor; nonzero = h.nonzero; entries = h.entries }
+reduced_at p k l v h = record {
+  own = h.own;
+  dimension = h.dimension;
+  positive = h.positive;
+  factor = h.factor;
+  nonzero = h.nonzero;
+  entries = h.entries;
+}
 
 -- the own places of reduced members are those of the members
 owns_reduced : (p : Member) (v : List ℤ) (ks ls : List Member) → AllZip (IsReduced p v) ks ls → map (λ k. k.own) ls ≡ map (λ k. k.own) ks
@@ -95,11 +117,14 @@ owns_reduced p v (k ∷ ks) [] r = absurd r
 owns_reduced p v (k ∷ ks) (l ∷ ls) r = ap₂ (λ (i : ℕ) (is : List ℕ). i ∷ is) r.0.own (owns_reduced p v ks ls r.1)
 
 -- an ascending list without one member ascends
-ascends_without : (before : List ℕ) (i : ℕ) (after : List ℕ) → Ascends (λ x y. x ≤ y) (before ++ (i ∷ after)) → Ascends (λ x y. x ≤ y) (before ++ after)
+ascends_without : (before : List ℕ) (i : ℕ) (after : List ℕ) → Ascends (λ x y. x ≤ y) (before ++ (i ∷ after))
+    → Ascends (λ x y. x ≤ y) (before ++ after)
 ascends_without [] i after h = h.1
 ascends_without (b ∷ before) i after h =
-    let e = each_from_all (λ y. b ≤ y) (before ++ (i ∷ after)) h.0 in
-    (all_from_each (each_append (each_left before (i ∷ after) e) (each_tail (each_right before (i ∷ after) e))), ascends_without before i after h.1)
+    let e = each_from_all (λ y. b ≤ y) (before ++ (i ∷ after)) h.0 in (
+      all_from_each (each_append (each_left before (i ∷ after) e) (each_tail (each_right before (i ∷ after) e))),
+      ascends_without before i after h.1,
+    )
 
 -- those behind a member aren't smaller
 ascends_behind : (before : List ℕ) (i : ℕ) (after : List ℕ) → Ascends (λ x y. x ≤ y) (before ++ (i ∷ after)) → All (λ y. i ≤ y) after
@@ -107,7 +132,8 @@ ascends_behind [] i after h = h.0
 ascends_behind (b ∷ before) i after h = ascends_behind before i after h.1
 
 -- the own places of a split list
-owns_split : (before : List Member) (p : Member) (after : List Member) → map (λ k. k.own) (before ++ (p ∷ after)) ≡ map (λ k. k.own) before ++ (p.own ∷ map (λ k. k.own) after)
+owns_split : (before : List Member) (p : Member) (after : List Member) → map (λ k. k.own) (before ++ (p ∷ after)) ≡ map (λ k. k.own) before
+    ++ (p.own ∷ map (λ k. k.own) after)
 owns_split before p after = map-append (λ (k : Member). k.own) before (p ∷ after)
 
 -- from the own places to the members
@@ -116,23 +142,31 @@ owns_later i [] h = empty
 owns_later i (k ∷ ks) (more p ps) = more p (owns_later i ks ps)
 
 -- with the step, a kernel stays a kernel
-pub kernel_stepped : (n : ℕ) (vs : List (List ℤ)) (before : List Member) (p : Member) (after new : List Member) (v : List ℤ) → IsPrimitiveKernel n vs (before ++ (p ∷ after)) → All (λ k. dot k.vector v ≡ pos 0) before → dot p.vector v ≢ pos 0
+pub kernel_stepped : (n : ℕ) (vs : List (List ℤ)) (before : List Member) (p : Member) (after new : List Member) (v : List ℤ)
+    → IsPrimitiveKernel n vs (before ++ (p ∷ after)) → All (λ k. dot k.vector v ≡ pos 0) before → dot p.vector v ≢ pos 0
     → IsStepped before p after v new → IsPrimitiveKernel n (vs ++ (v ∷ [])) new
 kernel_stepped n vs before p after new v h z u s =
     let owns = subst (Ascends (λ x y. x ≤ y)) (owns_split before p after) h.ascends in
-    let later = all_from_each (owns_later p.own after (each_from_all (λ y. p.own ≤ y) (map (λ k. k.own) after) (ascends_behind (map (λ k. k.own) before) p.own (map (λ k. k.own) after) owns))) in
+    let later = all_from_each (owns_later p.own after
+    (each_from_all (λ y. p.own ≤ y) (map (λ k. k.own) after)
+    (ascends_behind (map (λ k. k.own) before) p.own (map (λ k. k.own) after) owns))) in
     let law = kernel_steps_lem n vs h.pivots before p after s.next v h.kernel h.are_pivots z u later s.reduced in
-    let same : map (λ (k : Member). k.own) (before ++ s.next) ≡ map (λ (k : Member). k.own) before ++ map (λ (k : Member). k.own) after = map-append (λ (k : Member). k.own) before s.next ∙ ap (λ (is : List ℕ). map (λ (k : Member). k.own) before ++ is) (owns_reduced p v after s.next s.reduced) in
+    let same : map (λ (k : Member). k.own) (before ++ s.next) ≡ map (λ (k : Member). k.own) before ++ map (λ (k : Member). k.own) after =
+    map-append (λ (k : Member). k.own) before s.next ∙ ap (λ (is : List ℕ). map (λ (k : Member). k.own) before ++ is)
+    (owns_reduced p v after s.next s.reduced) in
     subst (IsPrimitiveKernel n (vs ++ (v ∷ []))) (sym s.whole) (record {
       kernel = law.0;
       pivots = h.pivots ++ (v ∷ []);
       are_pivots = law.1;
-      primitive = All-append (λ k. IsPrimitive k.vector) before s.next (all_from_each (each_left before (p ∷ after) (each_from_all (λ k. IsPrimitive k.vector) (before ++ (p ∷ after)) h.primitive))) s.primitive;
+      primitive = All-append (λ k. IsPrimitive k.vector) before s.next
+          (all_from_each (each_left before (p ∷ after)
+          (each_from_all (λ k. IsPrimitive k.vector) (before ++ (p ∷ after)) h.primitive))) s.primitive;
       ascends = subst (Ascends (λ x y. x ≤ y)) (sym same) (ascends_without (map (λ k. k.own) before) p.own (map (λ k. k.own) after) owns);
     })
 
 -- it has one member less
-pub stepped_length : (before : List Member) (p : Member) (after new : List Member) (v : List ℤ) → IsStepped before p after v new → length new + 1 ≡ length (before ++ (p ∷ after))
+pub stepped_length : (before : List Member) (p : Member) (after new : List Member) (v : List ℤ) → IsStepped before p after v new
+    → length new + 1 ≡ length (before ++ (p ∷ after))
 stepped_length before p after new v s =
     let e = length_all_zip (IsReduced p v) after s.next s.reduced in
     let w = ap length s.whole in
@@ -141,7 +175,8 @@ stepped_length before p after new v s =
     omega arith
 
 -- without a pivot nothing changes
-pub kernel_stayed : (n : ℕ) (vs : List (List ℤ)) (ks : List Member) (v : List ℤ) → IsPrimitiveKernel n vs ks → All (λ k. dot k.vector v ≡ pos 0) ks → IsPrimitiveKernel n (vs ++ (v ∷ [])) ks
+pub kernel_stayed : (n : ℕ) (vs : List (List ℤ)) (ks : List Member) (v : List ℤ) → IsPrimitiveKernel n vs ks
+    → All (λ k. dot k.vector v ≡ pos 0) ks → IsPrimitiveKernel n (vs ++ (v ∷ [])) ks
 kernel_stayed n vs ks v h z =
     let law = kernel_stays_lem n vs h.pivots ks v h.kernel h.are_pivots z in
     record { kernel = law.0; pivots = h.pivots; are_pivots = law.1; primitive = h.primitive; ascends = h.ascends }
@@ -151,9 +186,13 @@ unit_primitive : (n i : ℕ) (k : Member) → i < n → IsUnitMember n i k → I
 unit_primitive n i k h u = primitive_from_combination (unit n i) k.vector (dot-unit n i k.vector h ∙ u.unit.one)
 
 -- the own places of unit vectors ascend
-owns_from : (start : ℕ) (ks : List Member) → ((i : ℕ) (d : Member) → i < length ks → (get_or ks i d).own ≡ start + i) → Ascends (λ x y. x ≤ y) (map (λ k. k.own) ks)
+owns_from : (start : ℕ) (ks : List Member) → ((i : ℕ) (d : Member) → i < length ks → (get_or ks i d).own ≡ start + i)
+    → Ascends (λ x y. x ≤ y) (map (λ k. k.own) ks)
 owns_from start [] h = tt
-owns_from start (k ∷ ks) h = (all_from_each (later ks (λ i d l. start_next start i (h (suc i) d (omega arith)))), owns_from (suc start) ks (λ i d l. h (suc i) d (omega arith) ∙ next start i))
+owns_from start (k ∷ ks) h = (
+  all_from_each (later ks (λ i d l. start_next start i (h (suc i) d (omega arith)))),
+  owns_from (suc start) ks (λ i d l. h (suc i) d (omega arith) ∙ next start i),
+)
   where
     next : (a b : ℕ) → a + suc b ≡ suc a + b
     next a b = omega arith
@@ -164,12 +203,14 @@ owns_from start (k ∷ ks) h = (all_from_each (later ks (λ i d l. start_next st
     first : k.own ≡ start
     first = h 0 k (omega arith) ∙ omega arith
 
-    later : (ls : List Member) → ((i : ℕ) (d : Member) → i < length ls → start ≤ (get_or ls i d).own) → Each (λ y. k.own ≤ y) (map (λ l. l.own) ls)
+    later : (ls : List Member) → ((i : ℕ) (d : Member) → i < length ls → start ≤ (get_or ls i d).own)
+        → Each (λ y. k.own ≤ y) (map (λ l. l.own) ls)
     later [] g = empty
     later (l ∷ ls) g = more (let a = g 0 l (omega arith) in let b = first in omega arith) (later ls (λ i d m. g (suc i) d (omega arith)))
 
 -- the unit vectors are the kernel of no vectors
-pub kernel_started : (n : ℕ) (ks : List Member) → length ks ≡ n → ((i : ℕ) (d : Member) → i < n → IsUnitMember n i (get_or ks i d)) → IsPrimitiveKernel n [] ks
+pub kernel_started : (n : ℕ) (ks : List Member) → length ks ≡ n → ((i : ℕ) (d : Member) → i < n → IsUnitMember n i (get_or ks i d))
+    → IsPrimitiveKernel n [] ks
 kernel_started n ks e units =
     let law = kernel_starts_lem n ks e (λ i d h. units i d h) in
     record {
@@ -186,4 +227,5 @@ entries_at_most x y e h = rw e (All-weaker (λ a. nat_abs a < 2 ^ 63) (λ a. nat
 
 -- the entries of all members
 pub members_entries : (n : ℕ) (ks : List Member) → 1 ≤ n → n ≤ 6 → IsSmallKernel n ks → All (λ k. All (λ a. nat_abs a < 2 ^ 63) k.vector) ks
-members_entries n ks a b h = All-weaker (Contains ks) (λ k. All (λ x. nat_abs x < 2 ^ 63) k.vector) (λ k c. member_entries n ks a b h k c) ks (All-contains_itself ks)
+members_entries n ks a b h = All-weaker (Contains ks) (λ k. All (λ x. nat_abs x < 2 ^ 63) k.vector) (λ k c. member_entries n ks a b h k c)
+    ks (All-contains_itself ks)

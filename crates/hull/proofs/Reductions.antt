@@ -24,21 +24,25 @@ own_value a b x y z h k e f =
     omega (arith, linear)
 
 -- so a k - b p isn't 0
-pub own_entry : (p : Member) (a : ℤ) (k : Member) (b : ℤ) (z : List ℤ) → pos 0 <ℤ a → entry p.vector k.own ≡ pos 0 → pos 0 <ℤ entry k.vector k.own → AreMultiplesApart a k.vector b p.vector z → pos 0 <ℤ entry z k.own
-own_entry p a k b z h apart positive m = own_value a b (entry k.vector k.own) (entry p.vector k.own) (entry z k.own) h positive apart (m.entries k.own)
+pub own_entry : (p : Member) (a : ℤ) (k : Member) (b : ℤ) (z : List ℤ) → pos 0 <ℤ a → entry p.vector k.own ≡ pos 0
+    → pos 0 <ℤ entry k.vector k.own → AreMultiplesApart a k.vector b p.vector z → pos 0 <ℤ entry z k.own
+own_entry p a k b z h apart positive m = own_value a b (entry k.vector k.own) (entry p.vector k.own) (entry z k.own) h positive apart
+    (m.entries k.own)
 
 -- so it has a primitive part
 pub not_zero : (z : List ℤ) (i : ℕ) → pos 0 <ℤ entry z i → All (λ a. a ≡ pos 0) z → ⊥
 not_zero z i h n = positive_nonzero (entry z i) h (entries_from_zero z n i)
 
 -- the primitive part is the reduced member, where a is positive
-pub reduced_positive : (p : Member) (a : ℤ) (k : Member) (b : ℤ) (z w : List ℤ) (l : Member) → pos 0 <ℤ a → entry p.vector k.own ≡ pos 0 → pos 0 <ℤ entry k.vector k.own → AreMultiplesApart a k.vector b p.vector z
+pub reduced_positive : (p : Member) (a : ℤ) (k : Member) (b : ℤ) (z w : List ℤ) (l : Member) → pos 0 <ℤ a → entry p.vector k.own ≡ pos 0
+    → pos 0 <ℤ entry k.vector k.own → AreMultiplesApart a k.vector b p.vector z
     → IsPrimitivePart z w → l.own ≡ k.own → l.vector ≡ w → IsReducedBy p a k b l
 reduced_positive p a k b z w l h apart positive m part own vector = record {
   own = own;
   dimension = ap length vector ∙ part_length z w part ∙ m.dimension;
   primitive = subst IsPrimitive (sym vector) part.primitive;
-  positive = positive_factor (pos part.factor) (entry l.vector l.own) (positive_pos part.factor part.positive) (rw (vector, own, part_entry z w part k.own) (own_entry p a k b z h apart positive m));
+  positive = positive_factor (pos part.factor) (entry l.vector l.own) (positive_pos part.factor part.positive)
+      (rw (vector, own, part_entry z w part k.own) (own_entry p a k b z h apart positive m));
   factor = pos part.factor;
   nonzero = positive_nonzero (pos part.factor) (positive_pos part.factor part.positive);
   entries = λ j. ap (λ (x : List ℤ). pos part.factor *ℤ entry x j) vector ∙ part_entry z w part j ∙ m.entries j;
@@ -49,7 +53,8 @@ signs : (d x a s b t : ℤ) → d *ℤ x ≡ neg_ℤ a *ℤ s -ℤ neg_ℤ b *�
 signs d x a s b t e = let e' = simp products_out at e in simp products_out (omega (arith, linear))
 
 -- where a is negative the step takes both numbers with the other sign
-pub reduced_negative : (p : Member) (a : ℤ) (k : Member) (b : ℤ) (l : Member) → IsReducedBy p (neg_ℤ a) k (neg_ℤ b) l → IsReducedBy p a k b l
+pub reduced_negative : (p : Member) (a : ℤ) (k : Member) (b : ℤ) (l : Member) → IsReducedBy p (neg_ℤ a) k (neg_ℤ b) l
+    → IsReducedBy p a k b l
 reduced_negative p a k b l h = record {
   own = h.own;
   dimension = h.dimension;
@@ -61,17 +66,23 @@ reduced_negative p a k b l h = record {
 }
 
 -- the step in the program, where a isn't negative
-pub reduced_plain : (p : Member) (a : ℤ) (k : Member) (b : ℤ) (x y z v w : List ℤ) (l : Member) → CanReduce p a k b → pos 0 ≤ℤ a → x ≡ k.vector → y ≡ p.vector → AreMultiplesApart a x b y z → v ≡ z
+pub reduced_plain : (p : Member) (a : ℤ) (k : Member) (b : ℤ) (x y z v w : List ℤ) (l : Member) → CanReduce p a k b → pos 0 ≤ℤ a
+    → x ≡ k.vector → y ≡ p.vector → AreMultiplesApart a x b y z → v ≡ z
     → IsPrimitivePart v w → l.own ≡ k.own → l.vector ≡ w → IsReducedBy p a k b l
 reduced_plain p a k b x y z v w l can n ex ey m ev part own vector =
-    reduced_positive p a k b z w l (positive_from a n can.usable) can.apart can.positive (subst (λ (u : List ℤ). AreMultiplesApart a u b p.vector z) ex (subst (λ (u : List ℤ). AreMultiplesApart a x b u z) ey m)) (subst (λ (u : List ℤ). IsPrimitivePart u w) ev part) own vector
+    reduced_positive p a k b z w l (positive_from a n can.usable) can.apart can.positive
+    (subst (λ (u : List ℤ). AreMultiplesApart a u b p.vector z) ex (subst (λ (u : List ℤ). AreMultiplesApart a x b u z) ey m))
+    (subst (λ (u : List ℤ). IsPrimitivePart u w) ev part) own vector
 
 -- and where it is
-pub reduced_turned : (p : Member) (a : ℤ) (k : Member) (b c d : ℤ) (x y z v w : List ℤ) (l : Member) → CanReduce p a k b → a <ℤ pos 0 → c ≡ neg_ℤ a → d ≡ neg_ℤ b → x ≡ k.vector → y ≡ p.vector → AreMultiplesApart c x d y z → v ≡ z
+pub reduced_turned : (p : Member) (a : ℤ) (k : Member) (b c d : ℤ) (x y z v w : List ℤ) (l : Member) → CanReduce p a k b → a <ℤ pos 0
+    → c ≡ neg_ℤ a → d ≡ neg_ℤ b → x ≡ k.vector → y ≡ p.vector → AreMultiplesApart c x d y z → v ≡ z
     → IsPrimitivePart v w → l.own ≡ k.own → l.vector ≡ w → IsReducedBy p a k b l
 reduced_turned p a k b c d x y z v w l can n ec ed ex ey m ev part own vector =
     reduced_negative p a k b l (subst (λ (u : ℤ). IsReducedBy p u k (neg_ℤ b) l) ec (subst (λ (u : ℤ). IsReducedBy p c k u l) ed
-    (reduced_positive p c k d z w l (rw ec (turned_positive a n)) can.apart can.positive (subst (λ (u : List ℤ). AreMultiplesApart c u d p.vector z) ex (subst (λ (u : List ℤ). AreMultiplesApart c x d u z) ey m)) (subst (λ (u : List ℤ). IsPrimitivePart u w) ev part) own vector)))
+    (reduced_positive p c k d z w l (rw ec (turned_positive a n)) can.apart can.positive
+    (subst (λ (u : List ℤ). AreMultiplesApart c u d p.vector z) ex (subst (λ (u : List ℤ). AreMultiplesApart c x d u z) ey m))
+    (subst (λ (u : List ℤ). IsPrimitivePart u w) ev part) own vector)))
   where
     turned_positive : (a : ℤ) → a <ℤ pos 0 → pos 0 <ℤ neg_ℤ a
     turned_positive a h = omega (arith, linear)

@@ -21,7 +21,8 @@ pub apart_none : (a : ℤ) (x : List ℤ) (b : ℤ) (y z : List ℤ) → z ≡ [
 apart_none a x b y z e = record { length = ap length e; entries = λ k h. absurd (omega arith); small = rw e (all_from_each empty) }
 
 -- one more
-pub apart_more : (a : ℤ) (x : List ℤ) (b : ℤ) (y old new : List ℤ) (i : ℕ) (r : ℤ) → AreApartBelow a x b y i old → new ≡ old ++ (r ∷ []) → r ≡ a *ℤ entry x i -ℤ b *ℤ entry y i → nat_abs r < 2 ^ 127 → AreApartBelow a x b y (i + 1) new
+pub apart_more : (a : ℤ) (x : List ℤ) (b : ℤ) (y old new : List ℤ) (i : ℕ) (r : ℤ) → AreApartBelow a x b y i old → new ≡ old ++ (r ∷ [])
+    → r ≡ a *ℤ entry x i -ℤ b *ℤ entry y i → nat_abs r < 2 ^ 127 → AreApartBelow a x b y (i + 1) new
 apart_more a x b y old new i r h n e s = record {
   length = ap length n ∙ length_push old r ∙ ap (λ (m : ℕ). m + 1) h.length;
   entries = λ k l. ⊎_elim
@@ -36,12 +37,14 @@ zero_apart : (a b s t : ℤ) → s ≡ pos 0 → t ≡ pos 0 → pos 0 ≡ a *�
 zero_apart a b s t h k = rw (h, k) (simp products_out (omega (arith, linear)))
 
 -- all of them
-pub apart_all : (a : ℤ) (x : List ℤ) (b : ℤ) (y z : List ℤ) (i : ℕ) → AreApartBelow a x b y i z → i ≡ length x → length x ≡ length y → AreMultiplesApart a x b y z
+pub apart_all : (a : ℤ) (x : List ℤ) (b : ℤ) (y z : List ℤ) (i : ℕ) → AreApartBelow a x b y i z → i ≡ length x → length x ≡ length y
+    → AreMultiplesApart a x b y z
 apart_all a x b y z i h e f = record {
   dimension = h.length ∙ e;
   entries = λ k. ⊎_elim
       (λ (below : k < i). h.entries k below)
-      (λ (above : i ≤ k). entry_past z k (let g = h.length in omega arith) ∙ zero_apart a b (entry x k) (entry y k) (entry_past x k (omega arith)) (entry_past y k (omega arith)))
+      (λ (above : i ≤ k). entry_past z k (let g = h.length in omega arith) ∙ zero_apart a b (entry x k) (entry y k)
+      (entry_past x k (omega arith)) (entry_past y k (omega arith)))
       (cases_lt k i);
   small = h.small;
 }

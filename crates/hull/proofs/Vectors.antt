@@ -46,7 +46,8 @@ dot-difference (c ∷ k) (a ∷ p) [] e = absurd (omega arith)
 dot-difference (c ∷ k) (a ∷ p) (b ∷ q) e = regroup c a b (dot k p) (dot k q) (dot k (difference p q)) (dot-difference k p q (omega arith))
 
 -- its absolute sum
-pub absolute_sum-difference : (p q : List ℤ) (m : ℕ) → length p ≡ length q → absolute_sum p ≤ m → absolute_sum q ≤ m → absolute_sum (difference p q) ≤ 2 * m
+pub absolute_sum-difference : (p q : List ℤ) (m : ℕ) → length p ≡ length q → absolute_sum p ≤ m → absolute_sum q ≤ m
+    → absolute_sum (difference p q) ≤ 2 * m
 absolute_sum-difference p q m e h k = omega (arith, difference_absolute_sum_lem p q (difference p q) (λ i. entry-difference p q i e))
 
 -- equal pairings at two points annihilate their difference
@@ -72,34 +73,45 @@ pub vanishes_too : (d e c : ℤ) → e +ℤ c ≡ pos 0 → d ≡ e → d +ℤ c
 vanishes_too d e c h k = omega (arith, linear)
 
 -- a function that vanishes at all points annihilates their differences
-pub annihilates_differences : (n : ℕ) (points : List (List ℤ)) (f : Affine) → HaveDimension n points → Vanishes points f → Annihilates (differences points) f.normal
+pub annihilates_differences : (n : ℕ) (points : List (List ℤ)) (f : Affine) → HaveDimension n points → Vanishes points f
+    → Annihilates (differences points) f.normal
 annihilates_differences n [] f d h = all_from_each empty
-annihilates_differences n (p ∷ points) f d h = all_from_each (each points (All-tail (λ q. length q ≡ n) p points d) (All-tail (λ q. value f q ≡ pos 0) p points h))
+annihilates_differences n (p ∷ points) f d h =
+    all_from_each (each points (All-tail (λ q. length q ≡ n) p points d) (All-tail (λ q. value f q ≡ pos 0) p points h))
   where
     each : (qs : List (List ℤ)) → HaveDimension n qs → Vanishes qs f → Each (λ v. dot f.normal v ≡ pos 0) (map (λ q. difference q p) qs)
     each [] d' h' = empty
     each (q ∷ qs) d' h' =
-        more (zero_difference f.normal q p (All-head (λ r. length r ≡ n) q qs d' ∙ sym (All-head (λ r. length r ≡ n) p points d)) (both_vanish (dot f.normal q) (dot f.normal p) f.constant (All-head (λ r. value f r ≡ pos 0) q qs h') (All-head (λ r. value f r ≡ pos 0) p points h)))
+        more (zero_difference f.normal q p (All-head (λ r. length r ≡ n) q qs d' ∙ sym (All-head (λ r. length r ≡ n) p points d))
+        (both_vanish (dot f.normal q) (dot f.normal p) f.constant (All-head (λ r. value f r ≡ pos 0) q qs h')
+        (All-head (λ r. value f r ≡ pos 0) p points h)))
         (each qs (All-tail (λ r. length r ≡ n) q qs d') (All-tail (λ r. value f r ≡ pos 0) q qs h'))
 
 -- and conversely where it vanishes at the first
-pub vanishes_from_differences : (n : ℕ) (p : List ℤ) (points : List (List ℤ)) (f : Affine) → HaveDimension n (p ∷ points) → value f p ≡ pos 0 → Annihilates (differences (p ∷ points)) f.normal → Vanishes (p ∷ points) f
-vanishes_from_differences n p points f d z h = all_from_each (more z (each points (All-tail (λ q. length q ≡ n) p points d) (each_from_all (λ v. dot f.normal v ≡ pos 0) (differences (p ∷ points)) h)))
+pub vanishes_from_differences : (n : ℕ) (p : List ℤ) (points : List (List ℤ)) (f : Affine) → HaveDimension n (p ∷ points)
+    → value f p ≡ pos 0 → Annihilates (differences (p ∷ points)) f.normal → Vanishes (p ∷ points) f
+vanishes_from_differences n p points f d z h =
+    all_from_each (more z (each points (All-tail (λ q. length q ≡ n) p points d)
+    (each_from_all (λ v. dot f.normal v ≡ pos 0) (differences (p ∷ points)) h)))
   where
-    each : (qs : List (List ℤ)) → HaveDimension n qs → Each (λ v. dot f.normal v ≡ pos 0) (map (λ q. difference q p) qs) → Each (λ q. value f q ≡ pos 0) qs
+    each : (qs : List (List ℤ)) → HaveDimension n qs → Each (λ v. dot f.normal v ≡ pos 0) (map (λ q. difference q p) qs)
+        → Each (λ q. value f q ≡ pos 0) qs
     each [] d' h' = empty
     each (q ∷ qs) d' (more k ks) =
-        more (vanishes_too (dot f.normal q) (dot f.normal p) f.constant z (same_pairings f.normal q p (All-head (λ r. length r ≡ n) q qs d' ∙ sym (All-head (λ r. length r ≡ n) p points d)) k))
+        more (vanishes_too (dot f.normal q) (dot f.normal p) f.constant z
+        (same_pairings f.normal q p (All-head (λ r. length r ≡ n) q qs d' ∙ sym (All-head (λ r. length r ≡ n) p points d)) k))
         (each qs (All-tail (λ r. length r ≡ n) q qs d') ks)
 
 -- multiples of normals and a common zero give multiples of functions
-pub multiple_from_normals : (g f : Affine) (p : List ℤ) → value g p ≡ pos 0 → value f p ≡ pos 0 → IsVectorMultiple g.normal f.normal → IsMultiple g f
+pub multiple_from_normals : (g f : Affine) (p : List ℤ) → value g p ≡ pos 0 → value f p ≡ pos 0 → IsVectorMultiple g.normal f.normal
+    → IsMultiple g f
 multiple_from_normals g f p h k m = record {
   left = m.left;
   right = m.right;
   nonzero = m.nonzero;
   normals = m.same;
-  constants = by (dot g.normal p) (dot f.normal p) g.constant f.constant m.left m.right h k (sym (dot-scaled_left m.left g.normal p) ∙ ap (λ (x : List ℤ). dot x p) m.same ∙ dot-scaled_left m.right f.normal p);
+  constants = by (dot g.normal p) (dot f.normal p) g.constant f.constant m.left m.right h k (sym (dot-scaled_left m.left g.normal p)
+      ∙ ap (λ (x : List ℤ). dot x p) m.same ∙ dot-scaled_left m.right f.normal p);
 }
   where
     by : (d e c b q r : ℤ) → d +ℤ c ≡ pos 0 → e +ℤ b ≡ pos 0 → q *ℤ d ≡ r *ℤ e → q *ℤ c ≡ r *ℤ b
@@ -124,7 +136,8 @@ pub entries_fit : (a b : ℤ) → nat_abs a ≤ 2 ^ 30 → nat_abs b ≤ 2 ^ 30 
 entries_fit a b h k = fits_signed_from_abs w64 (a -ℤ b) (omega (arith, ints))
 
 -- one more entry of a difference
-pub difference_more : (p q old new : List ℤ) (i : ℕ) (r : ℤ) → length p ≡ length q → i < length p → old ≡ take i (difference p q) → r ≡ entry p i -ℤ entry q i → new ≡ old ++ (r ∷ []) → new ≡ take (i + 1) (difference p q)
+pub difference_more : (p q old new : List ℤ) (i : ℕ) (r : ℤ) → length p ≡ length q → i < length p → old ≡ take i (difference p q)
+    → r ≡ entry p i -ℤ entry q i → new ≡ old ++ (r ∷ []) → new ≡ take (i + 1) (difference p q)
 difference_more p q old new i r e h o v n =
     let within : i < length (difference p q) = let l = length-difference p q e in omega arith in
     let here : r ≡ get_or (difference p q) i r = v ∙ sym (entry-difference p q i e) ∙ get_or_default (difference p q) i (pos 0) r within in
@@ -135,27 +148,34 @@ pub difference_all : (p q x : List ℤ) (i : ℕ) → length p ≡ length q → 
 difference_all p q x i e h o = o ∙ take_all i (difference p q) (let l = length-difference p q e in omega arith)
 
 -- each point within the size limit is small
-pub points_small : (n : ℕ) (points : List (List ℤ)) → HaveDimension n points → IsSized n points → All (λ p. absolute_sum p ≤ size_limit_of n) points
-points_small n points d s = All-weaker (λ p. absolute_sum p ≤ size n points) (λ p. absolute_sum p ≤ size_limit_of n) (λ p h. omega arith) points (point_absolute_sum_lem n points d)
+pub points_small : (n : ℕ) (points : List (List ℤ)) → HaveDimension n points → IsSized n points
+    → All (λ p. absolute_sum p ≤ size_limit_of n) points
+points_small n points d s = All-weaker (λ p. absolute_sum p ≤ size n points) (λ p. absolute_sum p ≤ size_limit_of n)
+    (λ p h. omega arith) points (point_absolute_sum_lem n points d)
 
 -- no larger than the limit of the plane
 pub points_bound : (n : ℕ) (points : List (List ℤ)) → HaveDimension n points → IsSized n points → All (λ p. absolute_sum p ≤ 2 ^ 30) points
-points_bound n points d s = All-weaker (λ p. absolute_sum p ≤ size_limit_of n) (λ p. absolute_sum p ≤ 2 ^ 30) (λ p h. let b = limit_bound n in omega arith) points (points_small n points d s)
+points_bound n points d s = All-weaker (λ p. absolute_sum p ≤ size_limit_of n) (λ p. absolute_sum p ≤ 2 ^ 30) (λ p h.
+    let b = limit_bound n in omega arith) points (points_small n points d s)
 
 -- the differences of points and a first one
 abbrev pub from : List ℤ → List (List ℤ) → List (List ℤ)
 from first points = map (λ q. difference q first) points
 
 -- one more
-pub from-push : (first : List ℤ) (points : List (List ℤ)) (p : List ℤ) → from first (points ++ (p ∷ [])) ≡ from first points ++ (difference p first ∷ [])
+pub from-push : (first : List ℤ) (points : List (List ℤ)) (p : List ℤ)
+    → from first (points ++ (p ∷ [])) ≡ from first points ++ (difference p first ∷ [])
 from-push first [] p = refl
 from-push first (q ∷ points) p = ap (λ (xs : List (List ℤ)). difference q first ∷ xs) (from-push first points p)
 
 -- they are small
-pub from_small : (n m : ℕ) (first : List ℤ) (points : List (List ℤ)) → length first ≡ n → absolute_sum first ≤ m → HaveDimension n points → All (λ p. absolute_sum p ≤ m) points → All (λ v. absolute_sum v ≤ 2 * m) (from first points)
-from_small n m first points e w d s = all_from_each (each points (each_from_all (λ p. length p ≡ n) points d) (each_from_all (λ p. absolute_sum p ≤ m) points s))
+pub from_small : (n m : ℕ) (first : List ℤ) (points : List (List ℤ)) → length first ≡ n → absolute_sum first ≤ m → HaveDimension n points
+    → All (λ p. absolute_sum p ≤ m) points → All (λ v. absolute_sum v ≤ 2 * m) (from first points)
+from_small n m first points e w d s =
+    all_from_each (each points (each_from_all (λ p. length p ≡ n) points d) (each_from_all (λ p. absolute_sum p ≤ m) points s))
   where
-    each : (ps : List (List ℤ)) → Each (λ p. length p ≡ n) ps → Each (λ p. absolute_sum p ≤ m) ps → Each (λ v. absolute_sum v ≤ 2 * m) (from first ps)
+    each : (ps : List (List ℤ)) → Each (λ p. length p ≡ n) ps → Each (λ p. absolute_sum p ≤ m) ps
+        → Each (λ v. absolute_sum v ≤ 2 * m) (from first ps)
     each [] empty empty = empty
     each (p ∷ ps) (more l ls) (more h hs) = more (absolute_sum-difference p first m (l ∙ sym e) h w) (each ps ls hs)
 
@@ -164,7 +184,8 @@ abbrev pub others_of : List (List ℤ) → List (List ℤ)
 others_of points = take (length points - 1) (drop 1 points)
 
 -- its differences are those of the list
-pub differences_are : (points : List (List ℤ)) (first : List ℤ) → 0 < length points → first ≡ get_or points 0 first → from first (others_of points) ≡ differences points
+pub differences_are : (points : List (List ℤ)) (first : List ℤ) → 0 < length points → first ≡ get_or points 0 first
+    → from first (others_of points) ≡ differences points
 differences_are [] first h e = absurd (omega arith)
 differences_are (p ∷ points) first h e = ap₂ from e (take_all (length (p ∷ points) - 1) points (omega arith))
 
@@ -179,19 +200,31 @@ others_all P [] h = h
 others_all P (p ∷ points) h = subst (All P) (sym (take_all (length (p ∷ points) - 1) points (omega arith))) (All-tail P p points h)
 
 -- a kernel of differences is a small one
-pub small_kernel : (n : ℕ) (first : List ℤ) (points : List (List ℤ)) (ks ms : List Member) (v : List ℤ) → length first ≡ n → absolute_sum first ≤ size_limit_of n → HaveDimension n points → All (λ p. absolute_sum p ≤ size_limit_of n) points
+pub small_kernel : (n : ℕ) (first : List ℤ) (points : List (List ℤ)) (ks ms : List Member) (v : List ℤ) → length first ≡ n
+    → absolute_sum first ≤ size_limit_of n → HaveDimension n points → All (λ p. absolute_sum p ≤ size_limit_of n) points
     → IsPrimitiveKernel n (from first points) ks → ms ≡ ks → length v ≡ n → IsSmallKernel (length v) ms
-small_kernel n first points ks ms v e w d s k same l = subst (λ (m : ℕ). IsSmallKernel m ms) (sym l) (subst (IsSmallKernel n) (sym same) (record { vectors = from first points; is_kernel = k; small = from_small n (size_limit_of n) first points e w d s }))
+small_kernel n first points ks ms v e w d s k same l =
+    subst (λ (m : ℕ). IsSmallKernel m ms) (sym l)
+    (subst (IsSmallKernel n) (sym same) (record {
+      vectors = from first points;
+      is_kernel = k;
+      small = from_small n (size_limit_of n) first points e w d s;
+    }))
 
 -- and the kernel with one more difference is one of differences
-pub next_kernel : (n : ℕ) (first : List ℤ) (points : List (List ℤ)) (i : ℕ) (p v : List ℤ) (old ms new : List Member) → i < length points → p ≡ get_or points i p → v ≡ difference p first → length v ≡ n → ms ≡ old
-    → ((vs : List (List ℤ)) → IsPrimitiveKernel (length v) vs ms → IsPrimitiveKernel (length v) (vs ++ (v ∷ [])) new) → IsPrimitiveKernel n (from first (take i points)) old → IsPrimitiveKernel n (from first (take (i + 1) points)) new
+pub next_kernel : (n : ℕ) (first : List ℤ) (points : List (List ℤ)) (i : ℕ) (p v : List ℤ) (old ms new : List Member) → i < length points
+    → p ≡ get_or points i p → v ≡ difference p first → length v ≡ n → ms ≡ old
+    → ((vs : List (List ℤ)) → IsPrimitiveKernel (length v) vs ms → IsPrimitiveKernel (length v) (vs ++ (v ∷ [])) new)
+    → IsPrimitiveKernel n (from first (take i points)) old → IsPrimitiveKernel n (from first (take (i + 1) points)) new
 next_kernel n first points i p v old ms new h ep ev l same law k =
     let at_n = subst (λ (m : ℕ). (vs : List (List ℤ)) → IsPrimitiveKernel m vs ms → IsPrimitiveKernel m (vs ++ (v ∷ [])) new) l law in
     let vectors : from first (take i points) ++ (v ∷ []) ≡ from first (take (i + 1) points) =
-    ap (λ (x : List ℤ). from first (take i points) ++ (x ∷ [])) ev ∙ sym (from-push first (take i points) p) ∙ ap (from first) (sym (take_more points i p h ep)) in
-    subst (λ (vs : List (List ℤ)). IsPrimitiveKernel n vs new) vectors (at_n (from first (take i points)) (subst (IsPrimitiveKernel n (from first (take i points))) (sym same) k))
+    ap (λ (x : List ℤ). from first (take i points) ++ (x ∷ [])) ev ∙ sym (from-push first (take i points) p)
+    ∙ ap (from first) (sym (take_more points i p h ep)) in
+    subst (λ (vs : List (List ℤ)). IsPrimitiveKernel n vs new) vectors
+    (at_n (from first (take i points)) (subst (IsPrimitiveKernel n (from first (take i points))) (sym same) k))
 
 -- the first point of a list has its dimension
-pub first_length : (n : ℕ) (points : List (List ℤ)) (first : List ℤ) → HaveDimension n points → 0 < length points → first ≡ get_or points 0 first → length first ≡ n
+pub first_length : (n : ℕ) (points : List (List ℤ)) (first : List ℤ) → HaveDimension n points → 0 < length points
+    → first ≡ get_or points 0 first → length first ≡ n
 first_length n points first d h e = ap length e ∙ d 0 first h

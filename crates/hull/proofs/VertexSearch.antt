@@ -21,7 +21,8 @@ use Rattle.hull.proofs.Pivots.{take_more}
 use Rattle.hull.proofs.FacetBounds.{facets_bounded_lem, solid_at, no_facet}
 
 -- a list with one more member contains that one and what it contained
-contains_more : {X : Type 0} (xs : List X) (i : ℕ) (x y : X) → i < length xs → x ≡ get_or xs i x → Contains (take (i + 1) xs) y ↔ (Contains (take i xs) y ⊎ (x ≡ y))
+contains_more : {X : Type 0} (xs : List X) (i : ℕ) (x y : X) → i < length xs → x ≡ get_or xs i x
+    → Contains (take (i + 1) xs) y ↔ (Contains (take i xs) y ⊎ (x ≡ y))
 contains_more xs i x y h e = subst (λ zs. Contains zs y ↔ (Contains (take i xs) y ⊎ (x ≡ y))) (sym (take_more xs i x h e)) (there, back)
   where
     there : Contains (take i xs ++ (x ∷ [])) y → Contains (take i xs) y ⊎ (x ≡ y)
@@ -32,8 +33,10 @@ contains_more xs i x y h e = subst (λ zs. Contains zs y ↔ (Contains (take i x
     back (inr i') = subst (Contains (take i xs ++ (x ∷ []))) i' (Contains-push (take i xs) x)
 
 -- the facets' dimension
-pub facets_dimension : (n : ℕ) (points : List (List ℤ)) (facets : List Affine) → AreFacetsInAnyOrder n points facets → All (λ f. length f.normal ≡ n) facets
-facets_dimension n points facets h = All-weaker (Contains facets) (λ f. length f.normal ≡ n) (λ f c. ((h f).0 c).dimension) facets (All-contains_itself facets)
+pub facets_dimension : (n : ℕ) (points : List (List ℤ)) (facets : List Affine) → AreFacetsInAnyOrder n points facets
+    → All (λ f. length f.normal ≡ n) facets
+facets_dimension n points facets h = All-weaker (Contains facets) (λ f. length f.normal ≡ n) (λ f c. ((h f).0 c).dimension) facets
+    (All-contains_itself facets)
 
 -- two vectors without coordinates are the same
 no_coordinates : (x y : List ℤ) → length x ≡ 0 → length y ≡ 0 → x ≡ y
@@ -59,57 +62,75 @@ vertex_without points v d c = record { member = c; outside = λ h. outside h }
     none = no_others points v (each_from_all (λ p. length p ≡ 0) points d) (All-contains (λ p. length p ≡ 0) points v d c)
 
     outside : InHull 0 (others points v) v → ⊥
-    outside h = below (h (record { normal = []; constant = negsuc 0 }) refl (subst (λ (ps : List (List ℤ)). IsNonnegative ps (record { normal = []; constant = negsuc 0 })) (sym none) (all_from_each empty)))
+    outside h = below (h (record { normal = []; constant = negsuc 0 }) refl
+        (subst (λ (ps : List (List ℤ)). IsNonnegative ps (record { normal = []; constant = negsuc 0 })) (sym none) (all_from_each empty)))
 
 -- a product of a small entry and a small size
 product_small : (c p m : ℕ) → c ≤ p * m → p < 2 ^ 63 → m ≤ 2 ^ 30 → c ≤ 2 ^ 100
 product_small c p m h k l = omega (arith, mul-le-mul_right {m = p} {n = 2 ^ 63} m (omega arith))
 
 -- the facets' constants are small
-pub facets_constants : (n : ℕ) (points : List (List ℤ)) (facets : List Affine) → HaveDimension n points → (IsFlat n points → ⊥) → IsSized n points → AreFacetsInAnyOrder n points facets → All (λ f. nat_abs f.constant ≤ 2 ^ 100) facets
-facets_constants zero points facets d s k h = All-weaker (Contains facets) (λ f. nat_abs f.constant ≤ 2 ^ 100) (λ f c. absurd (no_facet f points ((h f).0 c))) facets (All-contains_itself facets)
-facets_constants (suc k) points facets d s t h = All-weaker (Contains facets) (λ f. nat_abs f.constant ≤ 2 ^ 100) small facets (All-contains_itself facets)
+pub facets_constants : (n : ℕ) (points : List (List ℤ)) (facets : List Affine) → HaveDimension n points → (IsFlat n points → ⊥)
+    → IsSized n points → AreFacetsInAnyOrder n points facets → All (λ f. nat_abs f.constant ≤ 2 ^ 100) facets
+facets_constants zero points facets d s k h = All-weaker (Contains facets) (λ f. nat_abs f.constant ≤ 2 ^ 100)
+    (λ f c. absurd (no_facet f points ((h f).0 c))) facets (All-contains_itself facets)
+facets_constants (suc k) points facets d s t h = All-weaker (Contains facets) (λ f. nat_abs f.constant ≤ 2 ^ 100) small facets
+    (All-contains_itself facets)
   where
     power : (2 * size (suc k) points) ^ (suc k - 1) < 2 ^ 63
     power = entries_fit_lem (suc k) (suc k - 1) (size (suc k) points) (omega arith) (omega arith)
 
     small : (f : Affine) → Contains facets f → nat_abs f.constant ≤ 2 ^ 100
-    small f c = product_small (nat_abs f.constant) ((2 * size (suc k) points) ^ (suc k - 1)) (size (suc k) points) (facets_bounded_lem (suc k) points (solid_at k points d s) f ((h f).0 c)).constant power (let b = limit_bound (suc k) in omega arith)
+    small f c = product_small (nat_abs f.constant) ((2 * size (suc k) points) ^ (suc k - 1)) (size (suc k) points)
+        (facets_bounded_lem (suc k) points (solid_at k points d s) f ((h f).0 c)).constant power (let b = limit_bound (suc k) in
+        omega arith)
 
 -- a point of the list is a vertex exactly where no other lies with it, by the law on vertices
-alone_by_law : (n : ℕ) (points : List (List ℤ)) (facets : List Affine) (v : List ℤ) → AreSolid n points → AreFacetsInAnyOrder n points facets → Contains points v → LiesAlone points facets v ↔ IsVertex n points v
+alone_by_law : (n : ℕ) (points : List (List ℤ)) (facets : List Affine) (v : List ℤ) → AreSolid n points
+    → AreFacetsInAnyOrder n points facets → Contains points v → LiesAlone points facets v ↔ IsVertex n points v
 alone_by_law n points facets v s h c = (there, back)
   where
     there : LiesAlone points facets v → IsVertex n points v
-    there a = (vertices_by_facets_lem n points s v c).1 (λ p d t. All-contains (λ p. LiesWith facets v p → p ≡ v) points p a d (All-weaker (Contains facets) (λ f. value f v ≡ pos 0 → value f p ≡ pos 0) (λ f k. t f ((h f).0 k)) facets (All-contains_itself facets)))
+    there a = (vertices_by_facets_lem n points s v c).1 (λ p d t. All-contains (λ p. LiesWith facets v p
+        → p ≡ v) points p a d (All-weaker (Contains facets) (λ f. value f v ≡ pos 0 → value f p ≡ pos 0) (λ f k. t f ((h f).0 k)) facets
+        (All-contains_itself facets)))
 
     back : IsVertex n points v → LiesAlone points facets v
     back k = All-weaker (Contains points) (λ p. LiesWith facets v p → p ≡ v) alone points (All-contains_itself points)
       where
         alone : (p : List ℤ) → Contains points p → LiesWith facets v p → p ≡ v
-        alone p d t = (vertices_by_facets_lem n points s v c).0 k p d (λ f i z. All-contains (λ f. value f v ≡ pos 0 → value f p ≡ pos 0) facets f t ((h f).1 i) z)
+        alone p d t = (vertices_by_facets_lem n points s v c).0 k p d (λ f i z. All-contains (λ f. value f v ≡ pos 0
+            → value f p ≡ pos 0) facets f t ((h f).1 i) z)
 
 -- and also without coordinates
-pub vertex_alone : (n : ℕ) (points : List (List ℤ)) (facets : List Affine) (v : List ℤ) → HaveDimension n points → (IsFlat n points → ⊥) → AreFacetsInAnyOrder n points facets → Contains points v → LiesAlone points facets v ↔ IsVertex n points v
+pub vertex_alone : (n : ℕ) (points : List (List ℤ)) (facets : List Affine) (v : List ℤ) → HaveDimension n points → (IsFlat n points → ⊥)
+    → AreFacetsInAnyOrder n points facets → Contains points v → LiesAlone points facets v ↔ IsVertex n points v
 vertex_alone (suc k) points facets v d s h c = alone_by_law (suc k) points facets v (solid_at k points d s) h c
-vertex_alone zero points facets v d s h c = (λ a. vertex_without points v d c, λ x. All-weaker (λ p. length p ≡ 0) (λ p. LiesWith facets v p → p ≡ v) (λ p e t. no_coordinates p v e (All-contains (λ p. length p ≡ 0) points v d c)) points d)
+vertex_alone zero points facets v d s h c = (
+  λ a. vertex_without points v d c,
+  λ x. All-weaker (λ p. length p ≡ 0) (λ p. LiesWith facets v p
+      → p ≡ v) (λ p e t. no_coordinates p v e (All-contains (λ p. length p ≡ 0) points v d c)) points d,
+)
 
 -- vs has the vertices among some of the points
 abbrev pub HasVertices : ℕ → List (List ℤ) → List (List ℤ) → List (List ℤ) → Type 0
 HasVertices n points some vs = (v : List ℤ) → Contains vs v ↔ (Contains some v × IsVertex n points v)
 
 -- one more point that isn't a vertex
-has_same : (n : ℕ) (points vs : List (List ℤ)) (i : ℕ) (p : List ℤ) → i < length points → p ≡ get_or points i p → (IsVertex n points p → ⊥) → HasVertices n points (take i points) vs → HasVertices n points (take (i + 1) points) vs
+has_same : (n : ℕ) (points vs : List (List ℤ)) (i : ℕ) (p : List ℤ) → i < length points → p ≡ get_or points i p → (IsVertex n points p → ⊥)
+    → HasVertices n points (take i points) vs → HasVertices n points (take (i + 1) points) vs
 has_same n points vs i p h e other k v = (there, back)
   where
     there : Contains vs v → Contains (take (i + 1) points) v × IsVertex n points v
     there c = let o = (k v).0 c in ((contains_more points i p v h e).1 (inl o.0), o.1)
 
     back : Contains (take (i + 1) points) v × IsVertex n points v → Contains vs v
-    back (c, x) = ⊎_elim (λ (o : Contains (take i points) v). (k v).1 (o, x)) (λ (j : p ≡ v). absurd (other (subst (IsVertex n points) (sym j) x))) ((contains_more points i p v h e).0 c)
+    back (c, x) = ⊎_elim (λ (o : Contains (take i points) v). (k v).1 (o, x))
+        (λ (j : p ≡ v). absurd (other (subst (IsVertex n points) (sym j) x))) ((contains_more points i p v h e).0 c)
 
 -- one more vertex
-has_more : (n : ℕ) (points vs : List (List ℤ)) (i : ℕ) (p : List ℤ) → i < length points → p ≡ get_or points i p → IsVertex n points p → HasVertices n points (take i points) vs → HasVertices n points (take (i + 1) points) (vs ++ (p ∷ []))
+has_more : (n : ℕ) (points vs : List (List ℤ)) (i : ℕ) (p : List ℤ) → i < length points → p ≡ get_or points i p → IsVertex n points p
+    → HasVertices n points (take i points) vs → HasVertices n points (take (i + 1) points) (vs ++ (p ∷ []))
 has_more n points vs i p h e y k v = (there, back)
   where
     there : Contains (vs ++ (p ∷ [])) v → Contains (take (i + 1) points) v × IsVertex n points v
@@ -125,20 +146,28 @@ has_more n points vs i p h e y k v = (there, back)
         ((contains_more points i p v h e).0 c)
 
 -- the vertices, in order
-pub vertices_listed : (n : ℕ) (points found vs : List (List ℤ)) → HasVertices n points points found → Ascends LexLess vs → ((v : List ℤ) → Contains vs v ↔ Contains found v) → AreVertices n points vs
+pub vertices_listed : (n : ℕ) (points found vs : List (List ℤ)) → HasVertices n points points found → Ascends LexLess vs
+    → ((v : List ℤ) → Contains vs v ↔ Contains found v) → AreVertices n points vs
 vertices_listed n points found vs k ascends same = record {
   ascends = ascends;
   members = λ v. (λ c. ((k v).0 ((same v).0 c)).1, λ x. (same v).1 ((k v).1 (x.member, x)));
 }
 
 -- they have the points' dimension
-pub vertices_dimension : (n : ℕ) (points found : List (List ℤ)) → HaveDimension n points → HasVertices n points points found → HaveDimension n found
-vertices_dimension n points found d k = All-weaker (Contains found) (λ p. length p ≡ n) (λ v c. All-contains (λ p. length p ≡ n) points v d ((k v).0 c).0) found (All-contains_itself found)
+pub vertices_dimension : (n : ℕ) (points found : List (List ℤ)) → HaveDimension n points → HasVertices n points points found
+    → HaveDimension n found
+vertices_dimension n points found d k =
+    All-weaker (Contains found) (λ p. length p ≡ n) (λ v c. All-contains (λ p. length p ≡ n) points v d ((k v).0 c).0) found
+    (All-contains_itself found)
 
 -- the loop's turn at a vertex, of which a copy is added
-pub turn_added : (n : ℕ) (points vs new : List (List ℤ)) (i : ℕ) (p copy : List ℤ) → i < length points → p ≡ get_or points i p → IsVertex n points p → copy ≡ p → new ≡ vs ++ (copy ∷ []) → HasVertices n points (take i points) vs → HasVertices n points (take (i + 1) points) new
-turn_added n points vs new i p copy h e x c s k = subst (HasVertices n points (take (i + 1) points)) (sym (s ∙ ap (λ q. vs ++ (q ∷ [])) c)) (has_more n points vs i p h e x k)
+pub turn_added : (n : ℕ) (points vs new : List (List ℤ)) (i : ℕ) (p copy : List ℤ) → i < length points → p ≡ get_or points i p
+    → IsVertex n points p → copy ≡ p → new ≡ vs ++ (copy ∷ []) → HasVertices n points (take i points) vs
+    → HasVertices n points (take (i + 1) points) new
+turn_added n points vs new i p copy h e x c s k = subst (HasVertices n points (take (i + 1) points)) (sym (s ∙ ap (λ q. vs ++ (q ∷ [])) c))
+    (has_more n points vs i p h e x k)
 
 -- its turn at another point
-pub turn_kept : (n : ℕ) (points vs new : List (List ℤ)) (i : ℕ) (p : List ℤ) → i < length points → p ≡ get_or points i p → (IsVertex n points p → ⊥) → new ≡ vs → HasVertices n points (take i points) vs → HasVertices n points (take (i + 1) points) new
+pub turn_kept : (n : ℕ) (points vs new : List (List ℤ)) (i : ℕ) (p : List ℤ) → i < length points → p ≡ get_or points i p
+    → (IsVertex n points p → ⊥) → new ≡ vs → HasVertices n points (take i points) vs → HasVertices n points (take (i + 1) points) new
 turn_kept n points vs new i p h e x s k = subst (HasVertices n points (take (i + 1) points)) (sym s) (has_same n points vs i p h e x k)

@@ -6,6 +6,7 @@ use Rattle.lattice_theory.specs.Facet.{IsFacet}
 use Rattle.facet_theory.specs.Solid.{AreSolid}
 use Rattle.hull.specs.Bounded.{IsWithin}
 
--- each facet of points that aren't flat has a normal with entries of at most (2S)^(n-1) and a constant of at most (2S)^(n-1) S, for their size S
+-- each facet of points that aren't flat has a normal with entries of at most (2S)^(n-1) and a constant of at most (2S)^(n-1) S, for their
+-- size S
 abbrev pub FacetsBounded : Type 0
 FacetsBounded = (n : ℕ) (points : List (List ℤ)) → AreSolid n points → (f : Affine) → IsFacet n points f → IsWithin n (size n points) f

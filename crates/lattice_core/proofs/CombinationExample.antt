@@ -40,13 +40,15 @@ multiple (a ∷ b ∷ []) c l e e' = record {
   constants = high a b c e e';
 }
   where
-    level : (a b c : ℤ) → (a *ℤ pos 2 +ℤ (b *ℤ pos 2 +ℤ pos 0)) +ℤ c ≡ pos 0 → (a *ℤ pos 0 +ℤ (b *ℤ pos 2 +ℤ pos 0)) +ℤ c ≡ pos 0 → pos 1 *ℤ a ≡ neg_ℤ b *ℤ pos 0
+    level : (a b c : ℤ) → (a *ℤ pos 2 +ℤ (b *ℤ pos 2 +ℤ pos 0)) +ℤ c ≡ pos 0 → (a *ℤ pos 0 +ℤ (b *ℤ pos 2 +ℤ pos 0)) +ℤ c ≡ pos 0
+        → pos 1 *ℤ a ≡ neg_ℤ b *ℤ pos 0
     level a b c e e' = omega (arith, ints)
 
     steep : (b : ℤ) → pos 1 *ℤ b ≡ neg_ℤ b *ℤ negsuc 0
     steep b = omega (arith, ints)
 
-    high : (a b c : ℤ) → (a *ℤ pos 2 +ℤ (b *ℤ pos 2 +ℤ pos 0)) +ℤ c ≡ pos 0 → (a *ℤ pos 0 +ℤ (b *ℤ pos 2 +ℤ pos 0)) +ℤ c ≡ pos 0 → pos 1 *ℤ c ≡ neg_ℤ b *ℤ pos 2
+    high : (a b c : ℤ) → (a *ℤ pos 2 +ℤ (b *ℤ pos 2 +ℤ pos 0)) +ℤ c ≡ pos 0 → (a *ℤ pos 0 +ℤ (b *ℤ pos 2 +ℤ pos 0)) +ℤ c ≡ pos 0
+        → pos 1 *ℤ c ≡ neg_ℤ b *ℤ pos 2
     high a b c e e' = omega (arith, ints)
 multiple (a ∷ b ∷ d ∷ x) c l e e' = absurd (omega arith)
 
@@ -87,12 +89,14 @@ example_fixed = record {
   fixed = record {
     points = line;
     count = refl;
-    dimension = All-cons (λ x. length x ≡ 2) point (other ∷ []) refl (All-cons (λ x. length x ≡ 2) other [] refl (All-nil (λ x. length x ≡ 2)));
+    dimension = All-cons (λ x. length x ≡ 2) point (other ∷ []) refl
+        (All-cons (λ x. length x ≡ 2) other [] refl (All-nil (λ x. length x ≡ 2)));
     small = omega arith;
     fixed = record {
       dimension = refl;
       primitive = primitive_from_combination (pos 0 ∷ negsuc 0 ∷ []) (pos 0 ∷ negsuc 0 ∷ []) refl;
-      vanishes = All-cons (λ x. value sum x ≡ pos 0) point (other ∷ []) refl (All-cons (λ x. value sum x ≡ pos 0) other [] refl (All-nil (λ x. value sum x ≡ pos 0)));
+      vanishes = All-cons (λ x. value sum x ≡ pos 0) point (other ∷ []) refl
+          (All-cons (λ x. value sum x ≡ pos 0) other [] refl (All-nil (λ x. value sum x ≡ pos 0)));
       determined = λ g l z. multiple g.normal g.constant l (All-head (λ x. value g x ≡ pos 0) point (other ∷ []) z)
           (All-head (λ x. value g x ≡ pos 0) other [] (All-tail (λ x. value g x ≡ pos 0) point (other ∷ []) z));
     };

@@ -129,7 +129,8 @@ on_line w l r a b s x y z e k m =
 -- two primitive vectors on one ray are the same
 pub same_on_ray : (q p : ℤ) (x f : List ℤ) → pos 0 <ℤ q → pos 0 <ℤ p → IsPrimitive x → IsPrimitive f → scaled q x ≡ scaled p f → x ≡ f
 same_on_ray q p x f hq hp hx hf e =
-    ⊎_elim (λ (same : x ≡ f). same) (λ (opposite : x ≡ scaled (negsuc 0) f). absurd (never opposite)) (primitive_same q p x f (positive_nonzero q hq) hx hf e)
+    ⊎_elim (λ (same : x ≡ f). same) (λ (opposite : x ≡ scaled (negsuc 0) f). absurd (never opposite))
+    (primitive_same q p x f (positive_nonzero q hq) hx hf e)
   where
     both : (q p a b : ℤ) → q *ℤ a ≡ p *ℤ b → a ≡ negsuc 0 *ℤ b → (q +ℤ p) *ℤ b ≡ pos 0
     both q p a b e h =
@@ -142,15 +143,18 @@ same_on_ray q p x f hq hp hx hf e =
     entry_zero : x ≡ scaled (negsuc 0) f → (i : ℕ) → entry f i ≡ pos 0
     entry_zero o i =
         let line = sym (entry-scaled q x i) ∙ ap (λ v. entry v i) e ∙ entry-scaled p f i in
-        factor_zero (q +ℤ p) (entry f i) (positive_nonzero _ (sum_positive q p hq hp)) (both q p (entry x i) (entry f i) line (ap (λ v. entry v i) o ∙ entry-scaled (negsuc 0) f i))
+        factor_zero (q +ℤ p) (entry f i) (positive_nonzero _ (sum_positive q p hq hp))
+        (both q p (entry x i) (entry f i) line (ap (λ v. entry v i) o ∙ entry-scaled (negsuc 0) f i))
 
     never : x ≡ scaled (negsuc 0) f → ⊥
     never o = primitive_nonzero f hf (zero_from_entries f (entry_zero o))
 
 -- a sum of such multiples
-pub cross_from : (f g : Affine) (p s a b : List ℤ) (l r : ℤ) → a ≡ f.normal → b ≡ g.normal → l ≡ pos (nat_abs (value g p)) → r ≡ pos (nat_abs (value f p))
+pub cross_from : (f g : Affine) (p s a b : List ℤ) (l r : ℤ) → a ≡ f.normal → b ≡ g.normal → l ≡ pos (nat_abs (value g p))
+    → r ≡ pos (nat_abs (value f p))
     → ((i : ℕ) → entry s i ≡ l *ℤ entry a i +ℤ r *ℤ entry b i) → IsCrossSum f g p s
-cross_from f g p s a b l r ea eb el er e i = e i ∙ ap₂ (λ (x y : ℤ). x +ℤ y) (ap₂ (λ (x : ℤ) (v : List ℤ). x *ℤ entry v i) el ea) (ap₂ (λ (x : ℤ) (v : List ℤ). x *ℤ entry v i) er eb)
+cross_from f g p s a b l r ea eb el er e i = e i ∙ ap₂ (λ (x y : ℤ). x +ℤ y) (ap₂ (λ (x : ℤ) (v : List ℤ). x *ℤ entry v i) el ea)
+    (ap₂ (λ (x : ℤ) (v : List ℤ). x *ℤ entry v i) er eb)
 
 -- it lies on the line of the combination
 cross_line : (f g h : Affine) (p s : List ℤ) → AreOpposite (value f p) (value g p) → length f.normal ≡ length p → length g.normal ≡ length p
@@ -165,7 +169,8 @@ cross_line f g h p s opposite df dg c es i =
 
 -- the factor of the combination is positive
 factor_positive : (a b : ℤ) (w : ℕ) → AreOpposite a b → 0 < w → pos 0 <ℤ (pos (nat_abs a) *ℤ pos w)
-factor_positive a b w s h = product_positive _ _ (⊎_elim (λ (k : (pos 0 <ℤ a) × (b <ℤ pos 0)). over a k.0) (λ (k : (a <ℤ pos 0) × (pos 0 <ℤ b)). under a k.0) s) (positive_pos w h)
+factor_positive a b w s h = product_positive _ _
+    (⊎_elim (λ (k : (pos 0 <ℤ a) × (b <ℤ pos 0)). over a k.0) (λ (k : (a <ℤ pos 0) × (pos 0 <ℤ b)). under a k.0) s) (positive_pos w h)
   where
     over : (a : ℤ) → pos 0 <ℤ a → pos 0 <ℤ pos (nat_abs a)
     over a h = omega (arith, ints, linear)
@@ -174,45 +179,57 @@ factor_positive a b w s h = product_positive _ _ (⊎_elim (λ (k : (pos 0 <ℤ 
     under a h = omega (arith, ints, linear)
 
 -- it isn't 0
-pub cross_nonzero : (f g h : Affine) (p s : List ℤ) → AreOpposite (value f p) (value g p) → length f.normal ≡ length p → length g.normal ≡ length p
+pub cross_nonzero : (f g h : Affine) (p s : List ℤ) → AreOpposite (value f p) (value g p) → length f.normal ≡ length p
+    → length g.normal ≡ length p
     → IsCombinationAt f g p h → IsCrossSum f g p s → All (λ a. a ≡ pos 0) s → ⊥
 cross_nonzero f g h p s opposite df dg c es zeros =
     let k = c.combination in
     let positive = factor_positive (value f p) (value g p) k.whole opposite k.positive.0 in
-    let none = λ (i : ℕ). sym (cross_line f g h p s opposite df dg c es i) ∙ ap (λ z. pos k.right *ℤ z) (entries_from_zero s zeros i) ∙ *ℤ-zero (pos k.right) in
-    primitive_nonzero h.normal c.primitive (zero_from_entries h.normal (λ i. factor_zero _ (entry h.normal i) (positive_nonzero _ positive) (none i)))
+    let none = λ (i : ℕ). sym (cross_line f g h p s opposite df dg c es i) ∙ ap (λ z. pos k.right *ℤ z) (entries_from_zero s zeros i)
+    ∙ *ℤ-zero (pos k.right) in
+    primitive_nonzero h.normal c.primitive
+    (zero_from_entries h.normal (λ i. factor_zero _ (entry h.normal i) (positive_nonzero _ positive) (none i)))
 
 -- and its primitive part is the combination's normal
-pub part_is : (f g h : Affine) (p s v : List ℤ) → AreOpposite (value f p) (value g p) → length f.normal ≡ length p → length g.normal ≡ length p
+pub part_is : (f g h : Affine) (p s v : List ℤ) → AreOpposite (value f p) (value g p) → length f.normal ≡ length p
+    → length g.normal ≡ length p
     → IsCombinationAt f g p h → length s ≡ length p → IsCrossSum f g p s → IsPrimitivePart s v → v ≡ h.normal
 part_is f g h p s v opposite df dg c ds es part =
     let k = c.combination in
     let q = pos k.right *ℤ pos part.factor in
     let m = pos (nat_abs (value f p)) *ℤ pos k.whole in
-    let lengths = length-scaled q v ∙ sym (length-scaled (pos part.factor) v) ∙ ap length part.multiple ∙ ds ∙ sym c.dimension ∙ sym (length-scaled m h.normal) in
+    let lengths = length-scaled q v ∙ sym (length-scaled (pos part.factor) v) ∙ ap length part.multiple ∙ ds ∙ sym c.dimension
+    ∙ sym (length-scaled m h.normal) in
     let entries = λ (i : ℕ). entry-scaled q v i ∙ *ℤ_assoc (pos k.right) (pos part.factor) (entry v i)
     ∙ ap (λ z. pos k.right *ℤ z) (sym (entry-scaled (pos part.factor) v i) ∙ ap (λ x. entry x i) part.multiple)
     ∙ cross_line f g h p s opposite df dg c es i ∙ sym (entry-scaled m h.normal i) in
     same_on_ray q m v h.normal (product_positive _ _ (positive_pos k.right k.positive.2) (positive_pos part.factor part.positive))
-    (factor_positive (value f p) (value g p) k.whole opposite k.positive.0) part.primitive c.primitive (same_from_entries _ _ lengths entries)
+    (factor_positive (value f p) (value g p) k.whole opposite k.positive.0) part.primitive c.primitive
+    (same_from_entries _ _ lengths entries)
 
 -- a function that points within the limit fix is small
-pub fixed_small : (n : ℕ) (h : Affine) → 1 ≤ n → n ≤ 6 → IsFixedWithinLimit n h → All (λ a. nat_abs a < 2 ^ 63) h.normal × (absolute_sum h.normal ≤ 2 ^ 60)
+pub fixed_small : (n : ℕ) (h : Affine) → 1 ≤ n → n ≤ 6 → IsFixedWithinLimit n h → All (λ a. nat_abs a < 2 ^ 63) h.normal
+    × (absolute_sum h.normal ≤ 2 ^ 60)
 fixed_small zero h some most f = absurd (omega arith)
 fixed_small (suc k) h some most f =
     let n = suc k in
     let S = size_limit_of n in
     let positive = limit_positive n some most in
-    let absolute_sums = All-weaker (λ p. absolute_sum p ≤ size n f.points) (λ p. absolute_sum p ≤ S) (λ p w. let s = f.small in omega (arith, w, s)) f.points (point_absolute_sum_lem n f.points f.dimension) in
+    let absolute_sums = All-weaker (λ p. absolute_sum p ≤ size n f.points) (λ p. absolute_sum p ≤ S) (λ p w. let s = f.small in
+    omega (arith, w, s)) f.points (point_absolute_sum_lem n f.points f.dimension) in
     let bound = normal_bound_lem k S f.points h positive f.count f.dimension absolute_sums f.fixed in
-    let fits = functions_fit_lem k S f.points h positive (omega arith) f.count f.dimension absolute_sums f.fixed in
-    (fits.0, normal_absolute_sum n h.normal most f.fixed.dimension (subst (λ (j : ℕ). EntriesWithin (twice_limit n ^ j) h.normal) (behind k) bound.0))
+    let fits = functions_fit_lem k S f.points h positive (omega arith) f.count f.dimension absolute_sums f.fixed in (
+      fits.0,
+      normal_absolute_sum n h.normal most f.fixed.dimension (subst (λ (j : ℕ). EntriesWithin (twice_limit n ^ j) h.normal)
+          (behind k) bound.0),
+    )
   where
     behind : (k : ℕ) → k ≡ suc k - 1
     behind k = omega arith
 
 -- a function with the combination's normal that vanishes at the point is the combination
-pub answer_is : (f g h r : Affine) (p v : List ℤ) → IsCombinationAt f g p h → v ≡ h.normal → r.normal ≡ v → r.constant ≡ neg_ℤ (dot v p) → IsCombinationAt f g p r
+pub answer_is : (f g h r : Affine) (p v : List ℤ) → IsCombinationAt f g p h → v ≡ h.normal → r.normal ≡ v → r.constant ≡ neg_ℤ (dot v p)
+    → IsCombinationAt f g p r
 answer_is f g h r p v c e n k =
     let constants = k ∙ ap neg_ℤ (ap (λ x. dot x p) e) ∙ from_zero (dot h.normal p) h.constant c.vanishes in
     subst (IsCombinationAt f g p) (sym (ap₂ (λ (x : List ℤ) (z : ℤ). record { normal = x; constant = z }) (n ∙ e) constants)) c

@@ -28,11 +28,14 @@ pub divisor_none : (v : List ℤ) → IsDivisorOfFirst v 0 0
 divisor_none v = record { divides = λ k d low high. absurd (omega arith); greatest = λ d h. dvd-zero d; bound = omega arith }
 
 -- one more entry
-pub divisor_more : (v : List ℤ) (i old new : ℕ) → i < length v → nat_abs (entry v i) < 2 ^ 127 → IsDivisorOfFirst v i old → IsGcd (nat_abs (entry v i)) old new → IsDivisorOfFirst v (i + 1) new
+pub divisor_more : (v : List ℤ) (i old new : ℕ) → i < length v → nat_abs (entry v i) < 2 ^ 127 → IsDivisorOfFirst v i old
+    → IsGcd (nat_abs (entry v i)) old new → IsDivisorOfFirst v (i + 1) new
 divisor_more v i old new within small h g =
     record {
-      divides = AllWithin-more (λ a. new ∣ nat_abs a) v 0 i (λ k d low high. dvd_trans new g.1 (h.divides k d low high)) (λ d. rw (get_or_default v i d (pos 0) within) g.0);
-      greatest = λ d all. g.2 d (all i (pos 0) (omega arith) (omega arith)) (h.greatest d (AllWithin-upto (λ a. d ∣ nat_abs a) v 0 (i + 1) i (omega arith) all));
+      divides = AllWithin-more (λ a. new ∣ nat_abs a) v 0 i (λ k d low high. dvd_trans new g.1 (h.divides k d low high))
+          (λ d. rw (get_or_default v i d (pos 0) within) g.0);
+      greatest = λ d all. g.2 d (all i (pos 0) (omega arith) (omega arith))
+          (h.greatest d (AllWithin-upto (λ a. d ∣ nat_abs a) v 0 (i + 1) i (omega arith) all));
       bound = gcd_bound _ _ new _ g small h.bound;
     }
 
@@ -45,7 +48,8 @@ add_none : (q r a : ℤ) → q +ℤ r ≡ a → r ≡ pos 0 → q ≡ a
 add_none q r a h k = omega (arith, ints)
 
 pub exact_quotient : (a : ℤ) (g : ℕ) → g ∣ nat_abs a → pos g *ℤ int_div a (pos g) ≡ a
-exact_quotient a g h = *ℤ_comm (pos g) (int_div a (pos g)) ∙ add_none (int_div a (pos g) *ℤ pos g) _ a (quot-rem a (pos g)) (rest_none a g h)
+exact_quotient a g h = *ℤ_comm (pos g) (int_div a (pos g)) ∙ add_none (int_div a (pos g) *ℤ pos g) _ a (quot-rem a (pos g))
+    (rest_none a g h)
 
 -- a number that divides an entry divides its product
 divides_scaled : (d g : ℕ) (a : ℤ) → DividesInteger d a → d * g ∣ nat_abs (pos g *ℤ a)
@@ -61,9 +65,12 @@ one_from (suc zero) g h k = refl
 one_from (suc (suc d)) g h k = let m = le_of_dvd h k in absurd (omega arith)
 
 -- division by the greatest common divisor leaves a primitive vector
-pub primitive_quotients : (v w : List ℤ) (g : ℕ) → 0 < g → scaled (pos g) w ≡ v → ((d : ℕ) → All (λ a. d ∣ nat_abs a) v → d ∣ g) → IsPrimitive w
+pub primitive_quotients : (v w : List ℤ) (g : ℕ) → 0 < g → scaled (pos g) w ≡ v → ((d : ℕ) → All (λ a. d ∣ nat_abs a) v → d ∣ g)
+    → IsPrimitive w
 primitive_quotients v w g h e greatest d all =
-    one_from d g h (greatest (d * g) (rw (← e) (All-map (λ a. d * g ∣ nat_abs a) (λ a. pos g *ℤ a) w (All-weaker (DividesInteger d) (λ a. d * g ∣ nat_abs (pos g *ℤ a)) (divides_scaled d g) w all))))
+    one_from d g h (greatest (d * g)
+    (rw (← e) (All-map (λ a. d * g ∣ nat_abs a) (λ a. pos g *ℤ a) w (All-weaker (DividesInteger d) (λ a. d * g ∣ nat_abs (pos g *ℤ a))
+    (divides_scaled d g) w all))))
 
 -- 0 divides only 0
 size_zero : (a : ℤ) → nat_abs a ≡ 0 → a ≡ pos 0

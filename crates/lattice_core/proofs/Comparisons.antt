@@ -13,7 +13,8 @@ use Rattle.lattice_theory.specs.Order.{LexLess, FunctionLess}
 use Rattle.lattice_core.specs.Compare.{Compares}
 
 -- a first number and then the rest
-compares_lex-then : (a b : ℤ) (x y : List ℤ) (r s : Ordering) → MatchOrdering r (a <ℤ b) (a ≡ b) (b <ℤ a) → Compares LexLess x y s → Compares LexLess (a ∷ x) (b ∷ y) (ordering_then r s)
+compares_lex-then : (a b : ℤ) (x y : List ℤ) (r s : Ordering) → MatchOrdering r (a <ℤ b) (a ≡ b) (b <ℤ a) → Compares LexLess x y s
+    → Compares LexLess (a ∷ x) (b ∷ y) (ordering_then r s)
 compares_lex-then a b x y Less s h k = inl h
 compares_lex-then a b x y Equal Less h k = inr (h, k)
 compares_lex-then a b x y Equal Equal h k = cc
@@ -25,10 +26,13 @@ pub compares_lex : (x y : List ℤ) → length x ≡ length y → Compares LexLe
 compares_lex [] [] e = refl
 compares_lex [] (b ∷ y) e = absurd (omega (arith, e))
 compares_lex (a ∷ x) [] e = absurd (omega (arith, e))
-compares_lex (a ∷ x) (b ∷ y) e = compares_lex-then a b x y (int_cmp a b) (slice_cmp int_cmp x y) (int_ranked a b (int_cmp a b) refl) (compares_lex x y (omega (arith, e)))
+compares_lex (a ∷ x) (b ∷ y) e = compares_lex-then a b x y (int_cmp a b) (slice_cmp int_cmp x y) (int_ranked a b (int_cmp a b) refl)
+    (compares_lex x y (omega (arith, e)))
 
 -- normals first, and then the constants
-compares_functions-then : (f g : Affine) (r s : Ordering) → Compares LexLess f.normal g.normal r → MatchOrdering s (f.constant <ℤ g.constant) (f.constant ≡ g.constant) (g.constant <ℤ f.constant) → Compares FunctionLess f g (ordering_then r s)
+compares_functions-then : (f g : Affine) (r s : Ordering) → Compares LexLess f.normal g.normal r
+    → MatchOrdering s (f.constant <ℤ g.constant) (f.constant ≡ g.constant) (g.constant <ℤ f.constant)
+    → Compares FunctionLess f g (ordering_then r s)
 compares_functions-then f g Less s h k = inl h
 compares_functions-then f g Equal Less h k = inr (h, k)
 compares_functions-then f g Equal Equal h k = λ i. record { normal = h i; constant = k i }
@@ -36,8 +40,10 @@ compares_functions-then f g Equal Greater h k = inr (sym h, k)
 compares_functions-then f g Greater s h k = inl h
 
 -- std's order on functions of one dimension is that of functions
-pub compares_functions : (f g : Affine) → length f.normal ≡ length g.normal → Compares FunctionLess f g (ordering_then (slice_cmp int_cmp f.normal g.normal) (int_cmp f.constant g.constant))
-compares_functions f g e = compares_functions-then f g (slice_cmp int_cmp f.normal g.normal) (int_cmp f.constant g.constant) (compares_lex f.normal g.normal e) (int_ranked f.constant g.constant (int_cmp f.constant g.constant) refl)
+pub compares_functions : (f g : Affine) → length f.normal ≡ length g.normal
+    → Compares FunctionLess f g (ordering_then (slice_cmp int_cmp f.normal g.normal) (int_cmp f.constant g.constant))
+compares_functions f g e = compares_functions-then f g (slice_cmp int_cmp f.normal g.normal) (int_cmp f.constant g.constant)
+    (compares_lex f.normal g.normal e) (int_ranked f.constant g.constant (int_cmp f.constant g.constant) refl)
 
 -- functions are equal where their parts are
 pub same_functions : (f g : Affine) → Decides (pointwise int_eq f.normal g.normal && int_eq f.constant g.constant) (f ≡ g)
@@ -55,7 +61,8 @@ same_functions f g =
     )
 
 -- under a strict order the answer is the only one that is true
-module _ {X : Type 0} (less : X → X → Type 0) (irreflexive : (x : X) → less x x → ⊥) (asymmetric : (x y : X) → less x y → less y x → ⊥) where
+module _ {X : Type 0} (less : X → X → Type 0) (irreflexive : (x : X) → less x x → ⊥) (asymmetric : (x y : X) → less x y → less y x
+    → ⊥) where
   pub is_less : (x y : X) (r : Ordering) → Compares less x y r → less x y → r ≡ Less
   is_less x y Less c h = refl
   is_less x y Equal c h = absurd (irreflexive x (rw (← c) at h))

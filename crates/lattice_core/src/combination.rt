@@ -8,8 +8,7 @@ ghost use Rattle.lattice_core.specs.Combine.{AreOpposite, HasFixedCombination, I
 ghost use Rattle.lattice_core.specs.CombineSteps.{IsCrossSum};
 ghost use Rattle.lattice_core.specs.declared.limits.TheConstants.{MOST_COORDINATES};
 
-use crate::MOST_COORDINATES;
-use crate::{Functional, Point, narrowed, pair, primitive};
+use crate::{Functional, MOST_COORDINATES, Point, narrowed, pair, primitive};
 use arrayvec::ArrayVec;
 
 /// The function with a normal of greatest common divisor 1 that vanishes at `p` and is a positive rational combination of `f` and `g`, whose
@@ -66,7 +65,12 @@ fn absolute_value(f: &Functional, p: &Point) -> i128
 }
 
 /// A multiple of the first vector and a multiple of the second, added.
-fn sum_of_multiples(left: i128, a: &[i64], right: i128, b: &[i64]) -> ArrayVec<i128, MOST_COORDINATES>
+fn sum_of_multiples(
+    left: i128,
+    a: &[i64],
+    right: i128,
+    b: &[i64],
+) -> ArrayVec<i128, MOST_COORDINATES>
     requires same_length { length a.now ≡ length b.now }
     requires most { length a.now ≤ MOST_COORDINATES }
     requires first { All (λ x. nat_abs (left *ℤ x) < 2 ^ 126) a.now }

@@ -7,9 +7,8 @@ ghost use Rattle.lattice_theory.specs.Size.{absolute_sum};
 ghost use Rattle.lattice_core.specs.Compare.{Compares};
 ghost use Rattle.lattice_core.specs.declared.limits.TheConstants.{MOST_COORDINATES};
 
-use crate::MOST_COORDINATES;
 use crate::entries::held;
-use crate::{Point, pair};
+use crate::{MOST_COORDINATES, Point, pair};
 use arrayvec::ArrayVec;
 use std::alloc::AllocError;
 use std::cmp::Ordering;

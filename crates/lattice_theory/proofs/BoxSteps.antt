@@ -62,7 +62,8 @@ step_first low high old new z i h s inside behind =
         let less = g.less in
         omega (arith, ints)
 
-    from_place : (j : ℕ) → DiffersAt old z j → (p : ℕ) → DiffersAt z new p → i ≤ p → (j < i) ⊎ (i ≤ j) → (i < j) ⊎ (j ≤ i) → (i < p) ⊎ (p ≤ i) → ⊥
+    from_place : (j : ℕ) → DiffersAt old z j → (p : ℕ) → DiffersAt z new p → i ≤ p → (j < i) ⊎ (i ≤ j) → (i < j) ⊎ (j ≤ i)
+        → (i < p) ⊎ (p ≤ i) → ⊥
     from_place j d p g l (inl b) t u =
         let a = g.agrees j (omega arith) in let f = s.front j b in let less = d.less in omega (arith, ints)
     from_place j d p g l (inr b) (inl c) u =
@@ -101,7 +102,8 @@ step_next low high old new i h s = record {
 }
 
 -- where each entry is at its highest, there is no next one
-pub none_behind_highest : (low high x : List ℤ) → ((i : ℕ) → i < length x → entry x i ≡ entry high i) → (z : List ℤ) → IsInBox low high z → length x ≡ length z
+pub none_behind_highest : (low high x : List ℤ) → ((i : ℕ) → i < length x → entry x i ≡ entry high i) → (z : List ℤ) → IsInBox low high z
+    → length x ≡ length z
     → LexLess x z → ⊥
 none_behind_highest low high x top z inside e h =
     let d = first_difference x z h in
@@ -127,7 +129,8 @@ low_in_box low high x h = record {
 }
 
 -- a vector with the same first entries whose others are at their highest
-module _ (low high old new : List ℤ) (k : ℕ) (h : IsInBox low high old) (same_length : length new ≡ length old) (agrees : AgreesTo k old new)
+module _ (low high old new : List ℤ) (k : ℕ) (h : IsInBox low high old) (same_length : length new ≡ length old)
+    (agrees : AgreesTo k old new)
     (raised : (i : ℕ) → k ≤ i → i < length old → entry new i ≡ entry high i) where
   pub raised_in_box : IsInBox low high new
   raised_in_box = record {
@@ -158,7 +161,8 @@ module _ (low high old new : List ℤ) (k : ℕ) (h : IsInBox low high old) (sam
       by (inr m) = m
 
 -- what a loop from the last coordinate to the first has done before it reaches the places below m
-module _ (low high old position : List ℤ) (m i : ℕ) (same_length : length position ≡ length old) (next : m ≡ i + 1) (within : i < length old)
+module _ (low high old position : List ℤ) (m i : ℕ) (same_length : length position ≡ length old) (next : m ≡ i + 1)
+    (within : i < length old)
     (front : AgreesTo m old position)
     (back : (k : ℕ) → m ≤ k → k < length old → (entry position k ≡ entry low k) × (entry old k ≡ entry high k)) where
   written : (v : ℤ) → entry (set position i v) i ≡ v
@@ -194,7 +198,8 @@ module _ (low high old position : List ℤ) (m i : ℕ) (same_length : length po
       by (inr more) = let b = back k (omega (arith, more)) l in (kept v k (omega (arith, more)) ∙ b.0, b.1)
 
 -- one more entry is raised to its highest
-module _ (high old position : List ℤ) (first i : ℕ) (v : ℤ) (behind : first ≤ i) (within : i < length position) (raised_to : v ≡ entry high i) where
+module _ (high old position : List ℤ) (first i : ℕ) (v : ℤ) (behind : first ≤ i) (within : i < length position)
+    (raised_to : v ≡ entry high i) where
   pub raise_kept : AgreesTo first old position → AgreesTo first old (set position i v)
   raise_kept h k l = let other : k ≢ i = omega arith in get_or-set_other position i k v (pos 0) other ∙ h k l
 

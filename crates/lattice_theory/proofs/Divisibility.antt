@@ -64,7 +64,14 @@ pub record HasBezout (a b : ℤ) : Type 0 where
 
 -- Euclid's end: the second number is 0
 bezout_base : (a : ℕ) → HasBezout (pos a) (pos 0)
-bezout_base a = record { divisor = a; left = pos 1; right = pos 0; combination = omega (arith, ints); divides_left = divides_itself a; divides_right = divides_zero a }
+bezout_base a = record {
+  divisor = a;
+  left = pos 1;
+  right = pos 0;
+  combination = omega (arith, ints);
+  divides_left = divides_itself a;
+  divides_right = divides_zero a;
+}
 
 -- one step of Euclid's algorithm: a = q b + r
 bezout_step : (a b q r : ℤ) → a ≡ q *ℤ b +ℤ r → HasBezout b r → HasBezout a b
@@ -72,8 +79,10 @@ bezout_step a b q r e h = record {
   divisor = h.divisor;
   left = h.right;
   right = h.left -ℤ h.right *ℤ q;
-  combination = let f = simp products_out at h.combination in let g = simp products_out at (ap (λ (z : ℤ). h.right *ℤ z) e) in simp products_out (omega (arith, linear));
-  divides_left = subst (DividesInteger h.divisor) (sym e) (divides_sum h.divisor (q *ℤ b) r (divides_multiple h.divisor q b h.divides_left) h.divides_right);
+  combination = let f = simp products_out at h.combination in let g = simp products_out at (ap (λ (z : ℤ). h.right *ℤ z) e) in
+      simp products_out (omega (arith, linear));
+  divides_left = subst (DividesInteger h.divisor) (sym e)
+      (divides_sum h.divisor (q *ℤ b) r (divides_multiple h.divisor q b h.divides_left) h.divides_right);
   divides_right = h.divides_left;
 }
 
@@ -85,7 +94,8 @@ quotient_rest a b h = omega (arith, ints)
 bezout_within : (n a b : ℕ) → b ≤ n → HasBezout (pos a) (pos b)
 bezout_within n a zero h = bezout_base a
 bezout_within zero a (suc b) h = absurd (omega arith)
-bezout_within (suc n) a (suc b) h = bezout_step (pos a) (pos (suc b)) (pos (a / suc b)) (pos (a % suc b)) (quotient_rest a (suc b) (omega arith)) (bezout_within n (suc b) (a % suc b) (omega arith))
+bezout_within (suc n) a (suc b) h = bezout_step (pos a) (pos (suc b)) (pos (a / suc b)) (pos (a % suc b))
+    (quotient_rest a (suc b) (omega arith)) (bezout_within n (suc b) (a % suc b) (omega arith))
 
 -- with the other sign of the first number
 bezout_negated : (a b : ℤ) → HasBezout (neg_ℤ a) b → HasBezout a b
@@ -159,7 +169,8 @@ primitive_nonzero x p h = let c = primitive_combination x p in absurd_one (sym c
 -- the quotients of a vector by a common divisor
 pub quotients : (g : ℕ) (x : List ℤ) → Each (DividesInteger g) x → (w : List ℤ) × (scaled (pos g) w ≡ x)
 quotients g [] h = ([], refl)
-quotients g (a ∷ x) (more (k, e) ps) = let r = quotients g x ps in (k ∷ r.0, ap₂ (λ (b : ℤ) (y : List ℤ). b ∷ y) (*ℤ_comm (pos g) k ∙ e) r.1)
+quotients g (a ∷ x) (more (k, e) ps) = let r = quotients g x ps in
+    (k ∷ r.0, ap₂ (λ (b : ℤ) (y : List ℤ). b ∷ y) (*ℤ_comm (pos g) k ∙ e) r.1)
 
 -- each vector that isn't 0 is a positive multiple of a primitive one
 pub record HasPrimitivePart (v : List ℤ) : Type 0 where
@@ -175,7 +186,9 @@ primitive_quotients v g h s = let r = quotients g v s.divides in record {
   factor = g;
   part = r.0;
   positive = h;
-  primitive = primitive_from_combination s.coefficients r.0 (cancel_left (pos g) (dot s.coefficients r.0) (pos 1) (positive_nonzero (pos g) (omega (arith, linear))) (sym (dot-scaled_right (pos g) s.coefficients r.0) ∙ ap (dot s.coefficients) r.1 ∙ s.combination ∙ simp products_out));
+  primitive = primitive_from_combination s.coefficients r.0
+      (cancel_left (pos g) (dot s.coefficients r.0) (pos 1) (positive_nonzero (pos g) (omega (arith, linear)))
+      (sym (dot-scaled_right (pos g) s.coefficients r.0) ∙ ap (dot s.coefficients) r.1 ∙ s.combination ∙ simp products_out));
   same = r.1;
 }
 
@@ -204,7 +217,8 @@ scaled_cancel q k (a ∷ x) [] n e = absurd (more_or_empty e)
   where
     more_or_empty : scaled q (a ∷ x) ≡ [] → ⊥
     more_or_empty e = cc
-scaled_cancel q k (a ∷ x) (b ∷ f) n e = ap₂ (λ (c : ℤ) (y : List ℤ). c ∷ y) (cancel_left q a (k *ℤ b) n (heads e ∙ *ℤ_assoc q k b)) (scaled_cancel q k x f n (tails e))
+scaled_cancel q k (a ∷ x) (b ∷ f) n e = ap₂ (λ (c : ℤ) (y : List ℤ). c ∷ y) (cancel_left q a (k *ℤ b) n (heads e ∙ *ℤ_assoc q k b))
+    (scaled_cancel q k x f n (tails e))
   where
     heads : scaled q (a ∷ x) ≡ scaled (q *ℤ k) (b ∷ f) → q *ℤ a ≡ (q *ℤ k) *ℤ b
     heads e = cc
@@ -213,9 +227,11 @@ scaled_cancel q k (a ∷ x) (b ∷ f) n e = ap₂ (λ (c : ℤ) (y : List ℤ). 
     tails e = cc
 
 -- the multiple is the combination that gives 1, taken of x
-pub multiple_of_primitive : (q p : ℤ) (x f : List ℤ) → q ≢ pos 0 → IsPrimitive f → scaled q x ≡ scaled p f → (k : ℤ) × (p ≡ q *ℤ k) × (x ≡ scaled k f)
+pub multiple_of_primitive : (q p : ℤ) (x f : List ℤ) → q ≢ pos 0 → IsPrimitive f → scaled q x ≡ scaled p f
+    → (k : ℤ) × (p ≡ q *ℤ k) × (x ≡ scaled k f)
 multiple_of_primitive q p x f n h e = let c = primitive_combination f h in
-    let s : p ≡ q *ℤ dot c.0 x = sym (*ℤ-one p) ∙ ap (λ (z : ℤ). p *ℤ z) (sym c.1) ∙ sym (dot-scaled_right p c.0 f) ∙ ap (dot c.0) (sym e) ∙ dot-scaled_right q c.0 x in
+    let s : p ≡ q *ℤ dot c.0 x = sym (*ℤ-one p) ∙ ap (λ (z : ℤ). p *ℤ z) (sym c.1) ∙ sym (dot-scaled_right p c.0 f) ∙ ap (dot c.0) (sym e)
+    ∙ dot-scaled_right q c.0 x in
     (dot c.0 x, s, scaled_cancel q (dot c.0 x) x f n (e ∙ ap (λ (z : ℤ). scaled z f) s))
 
 -- two primitive vectors on one line are equal or opposite
@@ -226,12 +242,17 @@ each_scaled_divides n k (b ∷ f) h = more (h b) (each_scaled_divides n k f h)
 -- a multiple of a vector that is primitive is one by 1 or -1
 primitive_scale : (k : ℤ) (f : List ℤ) → IsPrimitive (scaled k f) → (k ≡ pos 1) ⊎ (k ≡ negsuc 0)
 primitive_scale (pos n) f h = inl (ap pos (h n (all_from_each (each_scaled_divides n (pos n) f (λ b. (b, *ℤ_comm b (pos n)))))))
-primitive_scale (negsuc n) f h = inr (negsuc_one (h (suc n) (all_from_each (each_scaled_divides (suc n) (negsuc n) f (λ b. (neg_ℤ b, neg-*ℤ b (pos (suc n)) ∙ sym (*ℤ-neg b (pos (suc n))) ∙ *ℤ_comm b (negsuc n)))))))
+primitive_scale (negsuc n) f h =
+    inr (negsuc_one (h (suc n) (all_from_each
+    (each_scaled_divides (suc n) (negsuc n) f
+    (λ b. (neg_ℤ b, neg-*ℤ b (pos (suc n)) ∙ sym (*ℤ-neg b (pos (suc n))) ∙ *ℤ_comm b (negsuc n)))))))
   where
     negsuc_one : suc n ≡ 1 → negsuc n ≡ negsuc 0
     negsuc_one e = omega (arith, linear)
 
 -- two primitive vectors with a common multiple
-pub primitive_same : (q p : ℤ) (x f : List ℤ) → q ≢ pos 0 → IsPrimitive x → IsPrimitive f → scaled q x ≡ scaled p f → (x ≡ f) ⊎ (x ≡ scaled (negsuc 0) f)
+pub primitive_same : (q p : ℤ) (x f : List ℤ) → q ≢ pos 0 → IsPrimitive x → IsPrimitive f → scaled q x ≡ scaled p f
+    → (x ≡ f) ⊎ (x ≡ scaled (negsuc 0) f)
 primitive_same q p x f n hx hf e = let s = multiple_of_primitive q p x f n hf e in
-    ⊎_elim (λ (u : s.0 ≡ pos 1). inl (s.2 ∙ ap (λ (z : ℤ). scaled z f) u ∙ scaled-one f)) (λ (u : s.0 ≡ negsuc 0). inr (s.2 ∙ ap (λ (z : ℤ). scaled z f) u)) (primitive_scale s.0 f (subst IsPrimitive s.2 hx))
+    ⊎_elim (λ (u : s.0 ≡ pos 1). inl (s.2 ∙ ap (λ (z : ℤ). scaled z f) u ∙ scaled-one f))
+    (λ (u : s.0 ≡ negsuc 0). inr (s.2 ∙ ap (λ (z : ℤ). scaled z f) u)) (primitive_scale s.0 f (subst IsPrimitive s.2 hx))

@@ -46,45 +46,75 @@ nonnegative_points (p ∷ points) f e =
     All-cons (λ q. pos 0 ≤ℤ value f q) p points (nonnegative_number (value f p) both.0) (nonnegative_points points f both.1)
 
 -- a facet of points on a line, in the plane and in space, from what it asks of functions with named entries
-pub line_facet : (points : List (List ℤ)) (u k : ℤ) → IsPrimitive (on_line u) → passes points (function (on_line u) k) ≡ true → ((a c : ℤ) → VanishesWith points (function (on_line u) k) (function (on_line a) c) → IsMultiple (function (on_line a) c) (function (on_line u) k)) → IsFacet 1 points (function (on_line u) k)
+pub line_facet : (points : List (List ℤ)) (u k : ℤ) → IsPrimitive (on_line u) → passes points (function (on_line u) k) ≡ true
+    → ((a c : ℤ) → VanishesWith points (function (on_line u) k) (function (on_line a) c)
+    → IsMultiple (function (on_line a) c) (function (on_line u) k)) → IsFacet 1 points (function (on_line u) k)
 line_facet points u k primitive test determined =
     let f : Affine = function (on_line u) k in
     record {
       dimension = refl;
       primitive = primitive;
       nonnegative = nonnegative_points points f test;
-      determined = λ g e v. by_one (λ x. (c : ℤ) → VanishesWith points f (function x c) → IsMultiple (function x c) f) determined g.normal e g.constant v;
+      determined = λ g e v. by_one (λ x. (c : ℤ) → VanishesWith points f (function x c)
+          → IsMultiple (function x c) f) determined g.normal e g.constant v;
     }
 
-pub plane_facet : (points : List (List ℤ)) (u v k : ℤ) → IsPrimitive (in_plane u v) → passes points (function (in_plane u v) k) ≡ true → ((a b c : ℤ) → VanishesWith points (function (in_plane u v) k) (function (in_plane a b) c) → IsMultiple (function (in_plane a b) c) (function (in_plane u v) k)) → IsFacet 2 points (function (in_plane u v) k)
+pub plane_facet : (points : List (List ℤ)) (u v k : ℤ) → IsPrimitive (in_plane u v) → passes points (function (in_plane u v) k) ≡ true
+    → ((a b c : ℤ) → VanishesWith points (function (in_plane u v) k) (function (in_plane a b) c)
+    → IsMultiple (function (in_plane a b) c) (function (in_plane u v) k)) → IsFacet 2 points (function (in_plane u v) k)
 plane_facet points u v k primitive test determined =
     let f : Affine = function (in_plane u v) k in
     record {
       dimension = refl;
       primitive = primitive;
       nonnegative = nonnegative_points points f test;
-      determined = λ g e w. by_two (λ x. (c : ℤ) → VanishesWith points f (function x c) → IsMultiple (function x c) f) determined g.normal e g.constant w;
+      determined = λ g e w. by_two (λ x. (c : ℤ) → VanishesWith points f (function x c)
+          → IsMultiple (function x c) f) determined g.normal e g.constant w;
     }
 
-pub space_facet : (points : List (List ℤ)) (u v w k : ℤ) → IsPrimitive (in_space u v w) → passes points (function (in_space u v w) k) ≡ true → ((a b c d : ℤ) → VanishesWith points (function (in_space u v w) k) (function (in_space a b c) d) → IsMultiple (function (in_space a b c) d) (function (in_space u v w) k)) → IsFacet 3 points (function (in_space u v w) k)
+pub space_facet : (points : List (List ℤ)) (u v w k : ℤ) → IsPrimitive (in_space u v w) → passes points (function (in_space u v w) k) ≡ true
+    → ((a b c d : ℤ) → VanishesWith points (function (in_space u v w) k) (function (in_space a b c) d)
+    → IsMultiple (function (in_space a b c) d) (function (in_space u v w) k)) → IsFacet 3 points (function (in_space u v w) k)
 space_facet points u v w k primitive test determined =
     let f : Affine = function (in_space u v w) k in
     record {
       dimension = refl;
       primitive = primitive;
       nonnegative = nonnegative_points points f test;
-      determined = λ g e z. by_three (λ x. (d : ℤ) → VanishesWith points f (function x d) → IsMultiple (function x d) f) determined g.normal e g.constant z;
+      determined = λ g e z. by_three (λ x. (d : ℤ) → VanishesWith points f (function x d)
+          → IsMultiple (function x d) f) determined g.normal e g.constant z;
     }
 
 -- a multiple, by its entries
-pub line_multiple : (q p a c u k : ℤ) → q ≢ pos 0 → q *ℤ a ≡ p *ℤ u → q *ℤ c ≡ p *ℤ k → IsMultiple (function (on_line a) c) (function (on_line u) k)
-line_multiple q p a c u k nonzero first constants = record { left = q; right = p; nonzero = nonzero; normals = λ i. first i ∷ []; constants = constants }
+pub line_multiple : (q p a c u k : ℤ) → q ≢ pos 0 → q *ℤ a ≡ p *ℤ u → q *ℤ c ≡ p *ℤ k
+    → IsMultiple (function (on_line a) c) (function (on_line u) k)
+line_multiple q p a c u k nonzero first constants = record {
+  left = q;
+  right = p;
+  nonzero = nonzero;
+  normals = λ i. first i ∷ [];
+  constants = constants;
+}
 
-pub plane_multiple : (q p a b c u v k : ℤ) → q ≢ pos 0 → q *ℤ a ≡ p *ℤ u → q *ℤ b ≡ p *ℤ v → q *ℤ c ≡ p *ℤ k → IsMultiple (function (in_plane a b) c) (function (in_plane u v) k)
-plane_multiple q p a b c u v k nonzero first second constants = record { left = q; right = p; nonzero = nonzero; normals = λ i. first i ∷ second i ∷ []; constants = constants }
+pub plane_multiple : (q p a b c u v k : ℤ) → q ≢ pos 0 → q *ℤ a ≡ p *ℤ u → q *ℤ b ≡ p *ℤ v → q *ℤ c ≡ p *ℤ k
+    → IsMultiple (function (in_plane a b) c) (function (in_plane u v) k)
+plane_multiple q p a b c u v k nonzero first second constants = record {
+  left = q;
+  right = p;
+  nonzero = nonzero;
+  normals = λ i. first i ∷ second i ∷ [];
+  constants = constants;
+}
 
-pub space_multiple : (q p a b c d u v w k : ℤ) → q ≢ pos 0 → q *ℤ a ≡ p *ℤ u → q *ℤ b ≡ p *ℤ v → q *ℤ c ≡ p *ℤ w → q *ℤ d ≡ p *ℤ k → IsMultiple (function (in_space a b c) d) (function (in_space u v w) k)
-space_multiple q p a b c d u v w k nonzero first second third constants = record { left = q; right = p; nonzero = nonzero; normals = λ i. first i ∷ second i ∷ third i ∷ []; constants = constants }
+pub space_multiple : (q p a b c d u v w k : ℤ) → q ≢ pos 0 → q *ℤ a ≡ p *ℤ u → q *ℤ b ≡ p *ℤ v → q *ℤ c ≡ p *ℤ w → q *ℤ d ≡ p *ℤ k
+    → IsMultiple (function (in_space a b c) d) (function (in_space u v w) k)
+space_multiple q p a b c d u v w k nonzero first second third constants = record {
+  left = q;
+  right = p;
+  nonzero = nonzero;
+  normals = λ i. first i ∷ second i ∷ third i ∷ [];
+  constants = constants;
+}
 
 -- 1 isn't 0
 pub one_nonzero : pos 1 ≢ pos 0

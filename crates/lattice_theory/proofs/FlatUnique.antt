@@ -13,7 +13,8 @@ use Rattle.lattice_theory.proofs.Functions.{mixed, length-mixed, entry-mixed, va
 use Rattle.lattice_theory.proofs.Divisibility.{primitive_same}
 
 -- it vanishes where both do
-mixed_vanishes : (points : List (List ℤ)) (p : ℤ) (f : Affine) (q : ℤ) (g : Affine) → Vanishes points f → Vanishes points g → Vanishes points (mixed p f q g)
+mixed_vanishes : (points : List (List ℤ)) (p : ℤ) (f : Affine) (q : ℤ) (g : Affine) → Vanishes points f → Vanishes points g
+    → Vanishes points (mixed p f q g)
 mixed_vanishes points p f q g h k i d within = value-mixed p f q g _ ∙ zero_terms p q _ _ (h i d within) (k i d within)
 
 -- the entries of two flat functions where both end
@@ -25,7 +26,8 @@ same_entry : (a b u v : ℤ) → b *ℤ u +ℤ neg_ℤ a *ℤ v ≡ pos 0 → b 
 same_entry a b u v h = let k = simp products_out at h in omega (arith, linear)
 
 -- both normals end at one place
-same_place : (n : ℕ) (points : List (List ℤ)) (f g : Affine) (hf : IsFlatFunction n points f) (hg : IsFlatFunction n points g) → hf.place ≡ hg.place
+same_place : (n : ℕ) (points : List (List ℤ)) (f g : Affine) (hf : IsFlatFunction n points f) (hg : IsFlatFunction n points g)
+    → hf.place ≡ hg.place
 same_place n points f g hf hg =
     let first = hf.earliest g hg.place hg.dimension hg.vanishes hg.ends in
     let second = hg.earliest f hf.place hf.dimension hf.vanishes hf.ends in
@@ -41,7 +43,8 @@ late_zero f g k j ends_f ends_g late =
     (cases_lt k j)
 
 -- so it has no last entry that isn't 0, where no function that vanishes on the points ends before k: the two normals are on one line
-same_line : (n : ℕ) (points : List (List ℤ)) (f g : Affine) (k : ℕ) → length f.normal ≡ n → length g.normal ≡ n → Vanishes points f → Vanishes points g
+same_line : (n : ℕ) (points : List (List ℤ)) (f g : Affine) (k : ℕ) → length f.normal ≡ n → length g.normal ≡ n → Vanishes points f
+    → Vanishes points g
     → EndsAt f.normal k → EndsAt g.normal k → ((h : Affine) (j : ℕ) → length h.normal ≡ n → Vanishes points h → EndsAt h.normal j → k ≤ j)
     → scaled (entry g.normal k) f.normal ≡ scaled (entry f.normal k) g.normal
 same_line n points f g k dimension_f dimension_g vanishes_f vanishes_g ends_f ends_g earliest =
@@ -52,10 +55,12 @@ same_line n points f g k dimension_f dimension_g vanishes_f vanishes_g ends_f en
     let vanishes = mixed_vanishes points b f (neg_ℤ a) g vanishes_f vanishes_g in
     let zero : (i : ℕ) → entry h.normal i ≡ pos 0 = ⊎_elim
     (λ (z : (j : ℕ) → entry h.normal j ≡ pos 0). z)
-    (λ (e : (j : ℕ) × (j < length h.normal) × EndsAt h.normal j). absurd (e.2.nonzero (late_zero f g k e.0 ends_f ends_g (earliest h e.0 dimension vanishes e.2))))
+    (λ (e : (j : ℕ) × (j < length h.normal) × EndsAt h.normal j). absurd
+    (e.2.nonzero (late_zero f g k e.0 ends_f ends_g (earliest h e.0 dimension vanishes e.2))))
     (zero_or_ends h.normal) in
     same_from_entries _ _ (length-scaled b f.normal ∙ dimension_f ∙ sym dimension_g ∙ sym (length-scaled a g.normal)) (λ i.
-    entry-scaled b f.normal i ∙ same_entry a b (entry f.normal i) (entry g.normal i) (sym (entry-mixed b f (neg_ℤ a) g i) ∙ zero i) ∙ sym (entry-scaled a g.normal i))
+    entry-scaled b f.normal i ∙ same_entry a b (entry f.normal i) (entry g.normal i) (sym (entry-mixed b f (neg_ℤ a) g i) ∙ zero i)
+    ∙ sym (entry-scaled a g.normal i))
 
 -- two vectors that aren't opposite
 not_opposite : (f g : List ℤ) (k : ℕ) → pos 0 <ℤ entry f k → pos 0 <ℤ entry g k → f ≡ scaled (negsuc 0) g → ⊥
@@ -67,13 +72,16 @@ not_opposite f g k positive_f positive_g e =
 same_constant : (d c e : ℤ) → d +ℤ c ≡ pos 0 → d +ℤ e ≡ pos 0 → c ≡ e
 same_constant d c e h k = omega (arith, linear)
 
-pub flat_function_unique : (n : ℕ) (points : List (List ℤ)) (p : List ℤ) (f g : Affine) → Contains points p → IsFlatFunction n points f → IsFlatFunction n points g → f ≡ g
+pub flat_function_unique : (n : ℕ) (points : List (List ℤ)) (p : List ℤ) (f g : Affine) → Contains points p → IsFlatFunction n points f
+    → IsFlatFunction n points g → f ≡ g
 flat_function_unique n points p f g member hf hg =
     let place = same_place n points f g hf hg in
     let ends_g : EndsAt g.normal hf.place = subst (EndsAt g.normal) (sym place) hg.ends in
     let positive_g : pos 0 <ℤ entry g.normal hf.place = subst (λ (k : ℕ). pos 0 <ℤ entry g.normal k) (sym place) hg.positive in
     let line = same_line n points f g hf.place hf.dimension hg.dimension hf.vanishes hg.vanishes hf.ends ends_g hf.earliest in
-    let normals : f.normal ≡ g.normal = ⊎_elim (λ (e : f.normal ≡ g.normal). e) (λ (e : f.normal ≡ scaled (negsuc 0) g.normal). absurd (not_opposite f.normal g.normal hf.place hf.positive positive_g e))
+    let normals : f.normal ≡ g.normal =
+    ⊎_elim (λ (e : f.normal ≡ g.normal). e)
+    (λ (e : f.normal ≡ scaled (negsuc 0) g.normal). absurd (not_opposite f.normal g.normal hf.place hf.positive positive_g e))
     (primitive_same _ _ f.normal g.normal (positive_nonzero _ positive_g) hf.primitive hg.primitive line) in
     let zero_f : dot g.normal p +ℤ f.constant ≡ pos 0 = rw normals at (All-contains (λ x. value f x ≡ pos 0) points p hf.vanishes member) in
     let zero_g = All-contains (λ x. value g x ≡ pos 0) points p hg.vanishes member in

@@ -10,12 +10,14 @@ pub mixed : ℤ → Affine → ℤ → Affine → Affine
 mixed p f q g = record { normal = combined p f.normal q g.normal; constant = p *ℤ f.constant +ℤ q *ℤ g.constant }
 
 -- it has as many coordinates
-pub length-mixed : (n : ℕ) (p : ℤ) (f : Affine) (q : ℤ) (g : Affine) → length f.normal ≡ n → length g.normal ≡ n → length (mixed p f q g).normal ≡ n
+pub length-mixed : (n : ℕ) (p : ℤ) (f : Affine) (q : ℤ) (g : Affine) → length f.normal ≡ n → length g.normal ≡ n
+    → length (mixed p f q g).normal ≡ n
 unfolding mixed
 length-mixed n p f q g e e' = length-combined n p f.normal q g.normal e e'
 
 -- its entries
-pub entry-mixed : (p : ℤ) (f : Affine) (q : ℤ) (g : Affine) (i : ℕ) → entry (mixed p f q g).normal i ≡ p *ℤ entry f.normal i +ℤ q *ℤ entry g.normal i
+pub entry-mixed : (p : ℤ) (f : Affine) (q : ℤ) (g : Affine) (i : ℕ)
+    → entry (mixed p f q g).normal i ≡ p *ℤ entry f.normal i +ℤ q *ℤ entry g.normal i
 unfolding mixed
 entry-mixed p f q g i = entry-combined p f.normal q g.normal i
 

@@ -81,7 +81,8 @@ in_columns {y = y} a c (suc k) rows l h i =
     cases (inr later) below = in_append_right (map (λ z. a ∷ z) rows) (below later)
 
 -- columns ascend where their row does
-first_before : (a : ℤ) (k : ℕ) (rows : List (List ℤ)) (p q : List ℤ) → IsImage (λ y. a ∷ y) rows p → IsColumnPoint (a +ℤ pos 1) k rows q → LexLess p q
+first_before : (a : ℤ) (k : ℕ) (rows : List (List ℤ)) (p q : List ℤ) → IsImage (λ y. a ∷ y) rows p → IsColumnPoint (a +ℤ pos 1) k rows q
+    → LexLess p q
 first_before a k rows p q f c =
     let low = c.low in
     let less : a <ℤ c.head = omega (arith, ints, low) in

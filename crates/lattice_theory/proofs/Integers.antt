@@ -29,7 +29,14 @@ pub *ℤ_comm : (a b : ℤ) → a *ℤ b ≡ b *ℤ a
 
 -- a negative factor
 pub neg-*ℤ : (a b : ℤ) → neg_ℤ a *ℤ b ≡ neg_ℤ (a *ℤ b)
-neg-*ℤ a b = omega (arith, ints, ap (λ (n : ℕ). n * up b) (neg_is a).0, ap (λ (n : ℕ). n * down b) (neg_is a).0, ap (λ (n : ℕ). n * up b) (neg_is a).1, ap (λ (n : ℕ). n * down b) (neg_is a).1)
+neg-*ℤ a b = omega (
+  arith,
+  ints,
+  ap (λ (n : ℕ). n * up b) (neg_is a).0,
+  ap (λ (n : ℕ). n * down b) (neg_is a).0,
+  ap (λ (n : ℕ). n * up b) (neg_is a).1,
+  ap (λ (n : ℕ). n * down b) (neg_is a).1,
+)
 
 -- the same on the right
 pub *ℤ-neg : (a b : ℤ) → a *ℤ neg_ℤ b ≡ neg_ℤ (a *ℤ b)
@@ -45,7 +52,18 @@ pub *ℤ-+ℤ : (a b c : ℤ) → a *ℤ (b +ℤ c) ≡ a *ℤ b +ℤ a *ℤ c
 
 -- three factors
 pub *ℤ_assoc : (a b c : ℤ) → (a *ℤ b) *ℤ c ≡ a *ℤ (b *ℤ c)
-*ℤ_assoc a b c = omega (arith, ints, ap (λ (n : ℕ). n * up c) (product_is a b).0, ap (λ (n : ℕ). n * down c) (product_is a b).0, ap (λ (n : ℕ). n * up c) (product_is a b).1, ap (λ (n : ℕ). n * down c) (product_is a b).1, ap (λ (n : ℕ). up a * n) (product_is b c).0, ap (λ (n : ℕ). down a * n) (product_is b c).0, ap (λ (n : ℕ). up a * n) (product_is b c).1, ap (λ (n : ℕ). down a * n) (product_is b c).1)
+*ℤ_assoc a b c = omega (
+  arith,
+  ints,
+  ap (λ (n : ℕ). n * up c) (product_is a b).0,
+  ap (λ (n : ℕ). n * down c) (product_is a b).0,
+  ap (λ (n : ℕ). n * up c) (product_is a b).1,
+  ap (λ (n : ℕ). n * down c) (product_is a b).1,
+  ap (λ (n : ℕ). up a * n) (product_is b c).0,
+  ap (λ (n : ℕ). down a * n) (product_is b c).0,
+  ap (λ (n : ℕ). up a * n) (product_is b c).1,
+  ap (λ (n : ℕ). down a * n) (product_is b c).1,
+)
 
 -- the first two of three factors change places
 pub *ℤ_left_comm : (a b c : ℤ) → a *ℤ (b *ℤ c) ≡ b *ℤ (a *ℤ c)
@@ -104,7 +122,12 @@ neg_nonzero a h e = h (omega (arith, linear))
 
 -- a product of factors that aren't 0 isn't 0, and a factor that isn't 0 cancels
 pub product_nonzero : (a b : ℤ) → a ≢ pos 0 → b ≢ pos 0 → (a *ℤ b) ≢ pos 0
-product_nonzero a b h k = ⊎_elim (λ (p : pos 0 <ℤ a). ⊎_elim (λ (q : pos 0 <ℤ b). positive_nonzero (a *ℤ b) (product_positive a b p q)) (λ (q : pos 0 <ℤ neg_ℤ b) (e : a *ℤ b ≡ pos 0). let s = simp *ℤ-neg at (product_positive a (neg_ℤ b) p q) in absurd (omega (arith, linear))) (positive_or_negative b k)) (λ (p : pos 0 <ℤ neg_ℤ a). ⊎_elim (λ (q : pos 0 <ℤ b) (e : a *ℤ b ≡ pos 0). let s = simp neg-*ℤ at (product_positive (neg_ℤ a) b p q) in absurd (omega (arith, linear))) (λ (q : pos 0 <ℤ neg_ℤ b) (e : a *ℤ b ≡ pos 0). let s = simp (neg-*ℤ, *ℤ-neg) at (product_positive (neg_ℤ a) (neg_ℤ b) p q) in absurd (omega (arith, linear))) (positive_or_negative b k)) (positive_or_negative a h)
+product_nonzero a b h k = ⊎_elim (λ (p : pos 0 <ℤ a). ⊎_elim (λ (q : pos 0 <ℤ b). positive_nonzero (a *ℤ b) (product_positive a b p q))
+    (λ (q : pos 0 <ℤ neg_ℤ b) (e : a *ℤ b ≡ pos 0). let s = simp *ℤ-neg at (product_positive a (neg_ℤ b) p q) in
+    absurd (omega (arith, linear))) (positive_or_negative b k)) (λ (p : pos 0 <ℤ neg_ℤ a). ⊎_elim (λ (q : pos 0 <ℤ b) (e : a *ℤ b ≡ pos 0).
+    let s = simp neg-*ℤ at (product_positive (neg_ℤ a) b p q) in absurd (omega (arith, linear)))
+    (λ (q : pos 0 <ℤ neg_ℤ b) (e : a *ℤ b ≡ pos 0). let s = simp (neg-*ℤ, *ℤ-neg) at (product_positive (neg_ℤ a) (neg_ℤ b) p q) in
+    absurd (omega (arith, linear))) (positive_or_negative b k)) (positive_or_negative a h)
 
 -- a product is 0 only by a factor
 pub factor_zero : (a b : ℤ) → a ≢ pos 0 → a *ℤ b ≡ pos 0 → b ≡ pos 0
@@ -112,15 +135,19 @@ factor_zero a b h e = ⊎_elim (λ z. z) (λ (k : b ≢ pos 0). absurd (product_
 
 -- equal multiples of one number that is not 0
 pub cancel_left : (c a b : ℤ) → c ≢ pos 0 → c *ℤ a ≡ c *ℤ b → a ≡ b
-cancel_left c a b h e = let z : a -ℤ b ≡ pos 0 = factor_zero c (a -ℤ b) h (simp products_out (omega (arith, linear))) in omega (arith, linear)
+cancel_left c a b h e = let z : a -ℤ b ≡ pos 0 = factor_zero c (a -ℤ b) h (simp products_out (omega (arith, linear))) in
+    omega (arith, linear)
 
 -- a positive factor leaves the sign
 pub positive_factor : (c a : ℤ) → pos 0 <ℤ c → pos 0 <ℤ (c *ℤ a) → pos 0 <ℤ a
-positive_factor c a h k = ⊎_elim (λ p. p) (λ (n : a ≤ℤ pos 0). let m : pos 0 ≤ℤ neg_ℤ a = omega (arith, linear) in let l : pos 0 ≤ℤ c = omega (arith, linear) in let s = simp *ℤ-neg at (product_nonnegative c (neg_ℤ a) l m) in absurd (omega (arith, linear))) (positive_or_not a)
+positive_factor c a h k = ⊎_elim (λ p. p) (λ (n : a ≤ℤ pos 0). let m : pos 0 ≤ℤ neg_ℤ a = omega (arith, linear) in
+    let l : pos 0 ≤ℤ c = omega (arith, linear) in let s = simp *ℤ-neg at (product_nonnegative c (neg_ℤ a) l m) in
+    absurd (omega (arith, linear))) (positive_or_not a)
 
 -- the same for 0 or more
 pub nonnegative_factor : (c a : ℤ) → pos 0 <ℤ c → pos 0 ≤ℤ (c *ℤ a) → pos 0 ≤ℤ a
-nonnegative_factor c a h k = ⊎_elim (λ (n : a <ℤ pos 0). let m : pos 0 <ℤ neg_ℤ a = omega (arith, linear) in let s = simp *ℤ-neg at (product_positive c (neg_ℤ a) h m) in absurd (omega (arith, linear))) (λ p. p) (negative_or_not a)
+nonnegative_factor c a h k = ⊎_elim (λ (n : a <ℤ pos 0). let m : pos 0 <ℤ neg_ℤ a = omega (arith, linear) in
+    let s = simp *ℤ-neg at (product_positive c (neg_ℤ a) h m) in absurd (omega (arith, linear))) (λ p. p) (negative_or_not a)
 
 -- a positive integer is a natural number
 pub positive_is : (a : ℤ) → pos 0 <ℤ a → (n : ℕ) × (0 < n) × (a ≡ pos n)

@@ -80,7 +80,10 @@ module _ (P : List ℤ → Type 0) (n : ℕ) (columns : (y : List ℤ) → P y �
       → ((z : List ℤ) → P z → LexAtMost x z → LexAtMost z y → ⊥) → AreUpTo P y found
   passed_over x y found e are later none = record {
     ascends = are.ascends;
-    members = λ z. (λ c. let m = (are.members z).0 c in (m.0, inl (less_at_most z x y m.1 later)), λ h. by z h.0 h.1 (lex_total z x (columns z h.0 ∙ sym e)));
+    members = λ z. (
+      λ c. let m = (are.members z).0 c in (m.0, inl (less_at_most z x y m.1 later)),
+      λ h. by z h.0 h.1 (lex_total z x (columns z h.0 ∙ sym e)),
+    );
   }
     where
       by : (z : List ℤ) → P z → LexAtMost z y → LexLess z x ⊎ LexAtMost x z → Contains found z
@@ -119,11 +122,15 @@ module _ (P : List ℤ → Type 0) (n : ℕ) (columns : (y : List ℤ) → P y �
   next_found x y found e are next = one_more P y found (moved_on P (λ z h. h) x y found e are next) next.holds
 
   -- what is found is a beginning of the list of all
-  pub found_first : (x : List ℤ) (found all : List (List ℤ)) → length x ≡ n → AreUpTo P x found → Lists LexLess P all → all ≡ found ++ behind x all
+  pub found_first : (x : List ℤ) (found all : List (List ℤ)) → length x ≡ n → AreUpTo P x found → Lists LexLess P all
+      → all ≡ found ++ behind x all
   unfolding behind
   found_first x found all e are lists = lists_unique LexLess lex_asymmetric P all (found ++ behind x all) lists (record {
     ascends = ascends_append LexLess found (behind x all) are.ascends (ascends_filter LexLess (comes_before x) all lists.ascends) cross;
-    members = λ z. (λ c. from z (in_append_cases found (behind x all) (in_from_contains _ c)), λ h. contains_from_in (to z h (lex_total x z (e ∙ sym (columns z h)))));
+    members = λ z. (
+      λ c. from z (in_append_cases found (behind x all) (in_from_contains _ c)),
+      λ h. contains_from_in (to z h (lex_total x z (e ∙ sym (columns z h)))),
+    );
   })
     where
       cross : (y z : List ℤ) → In y found → In z (filter (comes_before x) all) → LexLess y z
@@ -135,7 +142,8 @@ module _ (P : List ℤ → Type 0) (n : ℕ) (columns : (y : List ℤ) → P y �
       from z (inr j) = (lists.members z).0 (contains_from_in (from_filter (comes_before x) all j).member)
 
       to : (z : List ℤ) → P z → LexLess x z ⊎ LexAtMost z x → In z (found ++ filter (comes_before x) all)
-      to z h (inl l) = in_append_right found (in_filter (comes_before x) all (in_from_contains all ((lists.members z).1 h)) (before_is_true x z l))
+      to z h (inl l) = in_append_right found (in_filter (comes_before x) all (in_from_contains all ((lists.members z).1 h))
+          (before_is_true x z l))
       to z h (inr m) = in_append_left (filter (comes_before x) all) (in_from_contains found ((are.members z).1 (h, m)))
 
   -- of the list of all, the members up to x
@@ -168,7 +176,8 @@ module _ (P : List ℤ → Type 0) (n : ℕ) (columns : (y : List ℤ) → P y �
           by (inr m) = (holds, m)
 
       to : (z : List ℤ) → P z → LexAtMost z x → In z (filter (λ y. not (comes_before x y)) all)
-      to z h m = in_filter (λ y. not (comes_before x y)) all (in_from_contains all ((lists.members z).1 h)) (test z (comes_before x z) refl m)
+      to z h m = in_filter (λ y. not (comes_before x y)) all (in_from_contains all ((lists.members z).1 h))
+          (test z (comes_before x z) refl m)
 
 -- the list of all vectors up to x is the only one
 pub up_to_unique : (P : List ℤ → Type 0) (x : List ℤ) (xs ys : List (List ℤ)) → AreUpTo P x xs → AreUpTo P x ys → xs ≡ ys
@@ -208,7 +217,8 @@ pub behind_less : (x y : List ℤ) (all : List (List ℤ)) → LexLess x y → I
 unfolding behind
 behind_less x y [] h i = elim i [ ]
 behind_less x y (_ ∷ all) h here =
-    one_fewer (comes_before y y) (comes_before x y) y (behind y all) (behind x all) (not_before_itself y (comes_before y y) refl) (before_is_true x y h)
+    one_fewer (comes_before y y) (comes_before x y) y (behind y all) (behind x all) (not_before_itself y (comes_before y y) refl)
+    (before_is_true x y h)
     (behind_fewer x y all (inl h))
 behind_less x y (z ∷ all) h (there i) =
     still_fewer (comes_before y z) (comes_before x z) z (behind y all) (behind x all)

@@ -40,9 +40,11 @@ unit_entry (negsuc n) h =
 -- a facet vanishes at an end: otherwise a constant function would be a multiple of it
 at_an_end : (a c : ℤ) → (a ≡ pos 1) ⊎ (a ≡ minus1) → IsFacet 1 segment (function (on_line a) c)
     → (value (function (on_line a) c) (on_line minus2) ≡ pos 0) ⊎ (value (function (on_line a) c) (on_line (pos 5)) ≡ pos 0)
-at_an_end a c unit facet = by (zero_or_not (value (function (on_line a) c) (on_line minus2))) (zero_or_not (value (function (on_line a) c) (on_line (pos 5))))
+at_an_end a c unit facet = by (zero_or_not (value (function (on_line a) c) (on_line minus2)))
+    (zero_or_not (value (function (on_line a) c) (on_line (pos 5))))
   where
-    one_at : (p : List ℤ) → value (function (on_line a) c) (on_line minus2) ≢ pos 0 → value (function (on_line a) c) (on_line (pos 5)) ≢ pos 0 → In p segment → value (function (on_line a) c) p ≡ pos 0
+    one_at : (p : List ℤ) → value (function (on_line a) c) (on_line minus2) ≢ pos 0
+        → value (function (on_line a) c) (on_line (pos 5)) ≢ pos 0 → In p segment → value (function (on_line a) c) p ≡ pos 0
         → value (function (on_line (pos 0)) (pos 1)) p ≡ pos 0
     one_at p low high here e = absurd (low e)
     one_at p low high (there here) e = absurd (high e)
@@ -67,7 +69,8 @@ at_an_end a c unit facet = by (zero_or_not (value (function (on_line a) c) (on_l
     by (inr n) (inl e) = inr e
     by (inr n) (inr m) =
         let multiple = facet.determined (function (on_line (pos 0)) (pos 1)) refl (λ p i e. one_at p n m (in_from_contains segment i) e) in
-        absurd (no_multiple a unit multiple.left multiple.right multiple.nonzero (ap (λ (x : List ℤ). entry x 0) multiple.normals) multiple.constants)
+        absurd (no_multiple a unit multiple.left multiple.right multiple.nonzero (ap (λ (x : List ℤ). entry x 0) multiple.normals)
+        multiple.constants)
 
 -- so there are no others
 only : (a c : ℤ) → IsFacet 1 segment (function (on_line a) c) → Contains (lower ∷ upper ∷ []) (function (on_line a) c)
@@ -85,7 +88,8 @@ only a c facet = by (unit_entry a facet.primitive) (at_an_end a c (unit_entry a 
     high : (u d : ℤ) → u ≡ minus1 → d ≡ pos 5 → function (on_line u) d ≡ upper
     high u d e g = λ i. function (on_line (e i)) (g i)
 
-    by : (a ≡ pos 1) ⊎ (a ≡ minus1) → (value (function (on_line a) c) (on_line minus2) ≡ pos 0) ⊎ (value (function (on_line a) c) (on_line (pos 5)) ≡ pos 0)
+    by : (a ≡ pos 1) ⊎ (a ≡ minus1) → (value (function (on_line a) c) (on_line minus2) ≡ pos 0)
+        ⊎ (value (function (on_line a) c) (on_line (pos 5)) ≡ pos 0)
         → Contains (lower ∷ upper ∷ []) (function (on_line a) c)
     by (inl e) (inl v) = (0, omega arith, sym (low a c e (let v' = rw e at v in omega (arith, ints))))
     by (inl e) (inr v) = let v' = rw e at v in let l = rw e at least in absurd (omega (arith, ints))
@@ -93,8 +97,11 @@ only a c facet = by (unit_entry a facet.primitive) (at_an_end a c (unit_entry a 
     by (inr e) (inr v) = (1, omega arith, sym (high a c e (let v' = rw e at v in omega (arith, ints))))
 
 pub segment_facets : AreFacetsInAnyOrder 1 segment (lower ∷ upper ∷ [])
-segment_facets f = (from, λ facet. by_one (λ x. (c : ℤ) → IsFacet 1 segment (function x c) → Contains (lower ∷ upper ∷ []) (function x c))
-    only f.normal facet.dimension f.constant facet)
+segment_facets f = (
+  from,
+  λ facet. by_one (λ x. (c : ℤ) → IsFacet 1 segment (function x c) → Contains (lower ∷ upper ∷ []) (function x c))
+      only f.normal facet.dimension f.constant facet,
+)
   where
     of_member : (g : Affine) → In g (lower ∷ upper ∷ []) → IsFacet 1 segment g
     of_member g here = lower_facet
@@ -107,7 +114,8 @@ segment_facets f = (from, λ facet. by_one (λ x. (c : ℤ) → IsFacet 1 segmen
 -- no function that isn't constant vanishes at both ends
 pub segment_not_flat : IsFlat 1 segment → ⊥
 segment_not_flat h = by_one
-    (λ x. (c : ℤ) → (k : ℕ) → entry x k ≢ pos 0 → value (function x c) (on_line minus2) ≡ pos 0 → value (function x c) (on_line (pos 5)) ≡ pos 0 → ⊥)
+    (λ x. (c : ℤ) → (k : ℕ) → entry x k ≢ pos 0 → value (function x c) (on_line minus2) ≡ pos 0
+    → value (function x c) (on_line (pos 5)) ≡ pos 0 → ⊥)
     none h.function.normal h.dimension h.function.constant h.nonconstant.0 h.nonconstant.1
     (h.vanishes 0 (on_line minus2) (omega arith)) (h.vanishes 1 (on_line (pos 5)) (omega arith))
   where

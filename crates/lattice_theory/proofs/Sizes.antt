@@ -9,7 +9,8 @@ use Rattle.lattice_theory.proofs.Members.{In, here, there}
 pub within_reach : {p : List ℤ} (points : List (List ℤ)) (i : ℕ) → In p points → nat_abs (entry p i) ≤ reach points i
 within_reach [] i m = elim m [ ]
 within_reach (p ∷ points) i here = le-max_left (nat_abs (entry p i)) (reach points i)
-within_reach (q ∷ points) i (there m) = let e = within_reach points i m in let f = le-max_right (nat_abs (entry q i)) (reach points i) in omega arith
+within_reach (q ∷ points) i (there m) = let e = within_reach points i m in let f = le-max_right (nat_abs (entry q i)) (reach points i) in
+    omega arith
 
 -- some of the points reach no further than all of them
 fewer_reach : (few points : List (List ℤ)) (i : ℕ) → ((p : List ℤ) → In p few → In p points) → reach few i ≤ reach points i

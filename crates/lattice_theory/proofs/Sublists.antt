@@ -6,7 +6,8 @@ use Rattle.lattice_theory.specs.Order.{Ascends}
 use Rattle.lattice_theory.proofs.Members.{Each, empty, more, In, here, there, each_from_all, all_from_each, each_append, each_from_in, each_in, each_map, each_weaker}
 
 -- a member that passes the test is kept
-kept_head : {X : Type 0} (test : X → Bool) (x : X) (xs : List X) (b : Bool) → test x ≡ b → b ≡ true → In x (cond b (x ∷ filter test xs) (filter test xs))
+kept_head : {X : Type 0} (test : X → Bool) (x : X) (xs : List X) (b : Bool) → test x ≡ b → b ≡ true
+    → In x (cond b (x ∷ filter test xs) (filter test xs))
 kept_head test x xs true e p = here
 kept_head test x xs false e p = cc
 
@@ -31,7 +32,8 @@ deeper : {X : Type 0} {test : X → Bool} {x : X} {xs : List X} (y : X) → IsKe
 deeper y k = record { member = there k.member; passes = k.passes }
 
 -- by whether the first member passes
-split_head : {X : Type 0} {x : X} (test : X → Bool) (y : X) (xs ys : List X) (b : Bool) → test y ≡ b → ((i : In x ys) → IsKept test x xs) → In x (cond b (y ∷ ys) ys) → IsKept test x (y ∷ xs)
+split_head : {X : Type 0} {x : X} (test : X → Bool) (y : X) (xs ys : List X) (b : Bool) → test y ≡ b → ((i : In x ys) → IsKept test x xs)
+    → In x (cond b (y ∷ ys) ys) → IsKept test x (y ∷ xs)
 split_head test y xs ys true e below here = record { member = here; passes = e }
 split_head test y xs ys true e below (there i) = deeper y (below i)
 split_head test y xs ys false e below i = deeper y (below i)
@@ -42,7 +44,8 @@ from_filter test [] i = elim i [ ]
 from_filter test (y ∷ xs) i = split_head test y xs (filter test xs) (test y) refl (from_filter test xs) i
 
 -- what is kept of an ascending list ascends
-ascends_kept : {X : Type 0} (less : X → X → Type 0) (x : X) (xs : List X) (b : Bool) → Each (less x) xs → Ascends less xs → Ascends less (cond b (x ∷ xs) xs)
+ascends_kept : {X : Type 0} (less : X → X → Type 0) (x : X) (xs : List X) (b : Bool) → Each (less x) xs → Ascends less xs
+    → Ascends less (cond b (x ∷ xs) xs)
 ascends_kept less x xs true each a = (all_from_each each, a)
 ascends_kept less x xs false each a = a
 
@@ -55,7 +58,8 @@ ascends_filter less test (x ∷ xs) a =
     (ascends_filter less test xs a.1)
 
 -- two ascending lists end to end, where each member of the first comes before each of the second
-pub ascends_append : {X : Type 0} (less : X → X → Type 0) (xs ys : List X) → Ascends less xs → Ascends less ys → ((x y : X) → In x xs → In y ys → less x y) → Ascends less (xs ++ ys)
+pub ascends_append : {X : Type 0} (less : X → X → Type 0) (xs ys : List X) → Ascends less xs → Ascends less ys
+    → ((x y : X) → In x xs → In y ys → less x y) → Ascends less (xs ++ ys)
 ascends_append less [] ys a b cross = b
 ascends_append less (x ∷ xs) ys a b cross = (
   all_from_each (each_append (each_from_all (less x) xs a.0) (each_from_in ys (λ y i. cross x y here i))),
@@ -73,7 +77,8 @@ all_pass test [] empty = refl
 all_pass test (x ∷ xs) (more p ps) = and_from (test x) (list_all test xs) p (all_pass test xs ps)
 
 -- a test of two lists end to end
-kept : {X : Type 0} (b : Bool) (x : X) (all front back : List X) → all ≡ front ++ back → cond b (x ∷ all) all ≡ cond b (x ∷ front) front ++ back
+kept : {X : Type 0} (b : Bool) (x : X) (all front back : List X) → all ≡ front ++ back
+    → cond b (x ∷ all) all ≡ cond b (x ∷ front) front ++ back
 kept true x all front back e = ap (λ zs. x ∷ zs) e
 kept false x all front back e = e
 
@@ -104,7 +109,8 @@ from_map f (x ∷ xs) here = record { source = x; member = here; is = refl }
 from_map f (x ∷ xs) (there i) = further x (from_map f xs i)
 
 -- a map that keeps the order keeps an ascending list ascending
-pub ascends_map : {X Y : Type 0} (less : X → X → Type 0) (below : Y → Y → Type 0) (f : X → Y) → ((x y : X) → less x y → below (f x) (f y)) → (xs : List X) → Ascends less xs → Ascends below (map f xs)
+pub ascends_map : {X Y : Type 0} (less : X → X → Type 0) (below : Y → Y → Type 0) (f : X → Y) → ((x y : X) → less x y → below (f x) (f y))
+    → (xs : List X) → Ascends less xs → Ascends below (map f xs)
 ascends_map less below f keeps [] a = tt
 ascends_map less below f keeps (x ∷ xs) a = (
   all_from_each (each_map (below (f x)) f (each_weaker (keeps x) (each_from_all (less x) xs a.0))),

@@ -33,7 +33,8 @@ module _ {X : Type 0} (less : X → X → Type 0) (asymmetric : (x y : X) → le
   rest_member x z xs ys above c d = by (member_cases x z ys d)
     where
       by : (x ≡ z) ⊎ Contains ys z → Contains ys z
-      by (inl e) = let below = All-contains (less x) xs z above c in absurd (asymmetric z z (subst (λ w. less w z) e below) (subst (λ w. less w z) e below))
+      by (inl e) = let below = All-contains (less x) xs z above c in
+          absurd (asymmetric z z (subst (λ w. less w z) e below) (subst (λ w. less w z) e below))
       by (inr h) = h
 
   pub ascending_unique : (xs ys : List X) → Ascends less xs → Ascends less ys → ((x : X) → Contains xs x ↔ Contains ys x) → xs ≡ ys
@@ -49,5 +50,8 @@ module _ {X : Type 0} (less : X → X → Type 0) (asymmetric : (x y : X) → le
       λ i. first i ∷ rest i
 
 -- the list that a property and an order tell is the only one
-pub lists_unique : {X : Type 0} (less : X → X → Type 0) (asymmetric : (x y : X) → less x y → less y x → ⊥) (P : X → Type 0) (xs ys : List X) → Lists less P xs → Lists less P ys → xs ≡ ys
-lists_unique less asymmetric P xs ys h k = ascending_unique less asymmetric xs ys h.ascends k.ascends (λ x. (λ c. (k.members x).1 ((h.members x).0 c), λ c. (h.members x).1 ((k.members x).0 c)))
+pub lists_unique : {X : Type 0} (less : X → X → Type 0) (asymmetric : (x y : X) → less x y → less y x → ⊥) (P : X → Type 0) (xs ys : List X)
+    → Lists less P xs → Lists less P ys → xs ≡ ys
+lists_unique less asymmetric P xs ys h k =
+    ascending_unique less asymmetric xs ys h.ascends k.ascends
+    (λ x. (λ c. (k.members x).1 ((h.members x).0 c), λ c. (h.members x).1 ((k.members x).0 c)))

@@ -51,11 +51,13 @@ dot-add_right x y z = dot_comm x (add y z) ∙ dot-add_left y z x ∙ ap₂ (λ 
 
 -- both on the left
 pub dot-combined_left : (p : ℤ) (x : List ℤ) (q : ℤ) (y z : List ℤ) → dot (combined p x q y) z ≡ p *ℤ dot x z +ℤ q *ℤ dot y z
-dot-combined_left p x q y z = dot-add_left (scaled p x) (scaled q y) z ∙ ap₂ (λ (u v : ℤ). u +ℤ v) (dot-scaled_left p x z) (dot-scaled_left q y z)
+dot-combined_left p x q y z = dot-add_left (scaled p x) (scaled q y) z ∙ ap₂ (λ (u v : ℤ). u +ℤ v) (dot-scaled_left p x z)
+    (dot-scaled_left q y z)
 
 -- both on the right
 pub dot-combined_right : (z : List ℤ) (p : ℤ) (x : List ℤ) (q : ℤ) (y : List ℤ) → dot z (combined p x q y) ≡ p *ℤ dot z x +ℤ q *ℤ dot z y
-dot-combined_right z p x q y = dot-add_right z (scaled p x) (scaled q y) ∙ ap₂ (λ (u v : ℤ). u +ℤ v) (dot-scaled_right p z x) (dot-scaled_right q z y)
+dot-combined_right z p x q y = dot-add_right z (scaled p x) (scaled q y) ∙ ap₂ (λ (u v : ℤ). u +ℤ v) (dot-scaled_right p z x)
+    (dot-scaled_right q z y)
 
 -- multiples of multiples
 pub scaled-one : (x : List ℤ) → scaled (pos 1) x ≡ x
@@ -170,9 +172,11 @@ entry-unit_other (suc m) (suc i) zero n = refl
 entry-unit_other (suc m) (suc i) (suc j) n = entry-unit_other m i j (λ e. n (ap suc e))
 
 -- vectors of one length with the same pairings are the same
-pub entries_from_pairings : (m : ℕ) (x y : List ℤ) → length x ≡ m → length y ≡ m → ((v : List ℤ) → length v ≡ m → dot x v ≡ dot y v) → (i : ℕ) → entry x i ≡ entry y i
+pub entries_from_pairings : (m : ℕ) (x y : List ℤ) → length x ≡ m → length y ≡ m → ((v : List ℤ) → length v ≡ m → dot x v ≡ dot y v)
+    → (i : ℕ) → entry x i ≡ entry y i
 entries_from_pairings m x y e f p i = ⊎_elim
-    (λ (h : i < m). sym (dot-unit m i x h) ∙ dot_comm (unit m i) x ∙ p (unit m i) (length-unit m i) ∙ dot_comm y (unit m i) ∙ dot-unit m i y h)
+    (λ (h : i < m). sym (dot-unit m i x h) ∙ dot_comm (unit m i) x ∙ p (unit m i) (length-unit m i) ∙ dot_comm y (unit m i)
+    ∙ dot-unit m i y h)
     (λ (h : m ≤ i). entry_past x i (omega arith) ∙ sym (entry_past y i (omega arith)))
     (cases_lt i m)
 
@@ -199,7 +203,8 @@ pub entries_from_zero : (x : List ℤ) → All (λ a. a ≡ pos 0) x → (i : �
 entries_from_zero x h = zero_each x (each_from_all (λ a. a ≡ pos 0) x h)
 
 -- a vector is 0 or has a last entry that isn't 0
-ends_deeper : (a : ℤ) (x : List ℤ) → ((i : ℕ) → entry x i ≡ pos 0) ⊎ ((k : ℕ) × (k < length x) × EndsAt x k) → ((i : ℕ) → entry (a ∷ x) i ≡ pos 0) ⊎ ((k : ℕ) × (k < length (a ∷ x)) × EndsAt (a ∷ x) k)
+ends_deeper : (a : ℤ) (x : List ℤ) → ((i : ℕ) → entry x i ≡ pos 0) ⊎ ((k : ℕ) × (k < length x) × EndsAt x k)
+    → ((i : ℕ) → entry (a ∷ x) i ≡ pos 0) ⊎ ((k : ℕ) × (k < length (a ∷ x)) × EndsAt (a ∷ x) k)
 ends_deeper a x (inr (k, h, e)) = inr (suc k, suc-le-suc h, record { nonzero = e.nonzero; zeros = λ j. later j })
   where
     later : (j : ℕ) → suc k < j → entry (a ∷ x) j ≡ pos 0

@@ -47,7 +47,8 @@ segment = on_line minus2 ∷ on_line (pos 5) ∷ []
 
 -- the corners of the octahedron
 abbrev pub octahedron : List (List ℤ)
-octahedron = in_space minus1 (pos 0) (pos 0) ∷ in_space (pos 0) minus1 (pos 0) ∷ in_space (pos 0) (pos 0) minus1 ∷ in_space (pos 1) (pos 0) (pos 0)
+octahedron = in_space minus1 (pos 0) (pos 0) ∷ in_space (pos 0) minus1 (pos 0) ∷ in_space (pos 0) (pos 0) minus1 ∷ in_space (pos 1) (pos 0)
+    (pos 0)
     ∷ in_space (pos 0) (pos 1) (pos 0) ∷ in_space (pos 0) (pos 0) (pos 1) ∷ []
 
 -- the corners of a triangle

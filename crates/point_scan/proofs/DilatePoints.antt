@@ -72,7 +72,8 @@ module _ (n : ℕ) (points : List (List ℤ)) (solid : AreSolid n points) (j : �
           }
 
 -- the first dilate is the hull
-pub lattice_from_dilate : (n : ℕ) (points : List (List ℤ)) → AreSolid n points → (xs : List (List ℤ)) → AreDilatePoints n points 1 xs → AreLatticePoints n points xs
+pub lattice_from_dilate : (n : ℕ) (points : List (List ℤ)) → AreSolid n points → (xs : List (List ℤ)) → AreDilatePoints n points 1 xs
+    → AreLatticePoints n points xs
 lattice_from_dilate n points solid xs are = record {
   ascends = are.ascends;
   members = λ p.

@@ -34,11 +34,16 @@ pub dot_set : (n p : List ℤ) (i : ℕ) (v : ℤ) → i < length n → i < leng
 dot_set [] p i v h k = absurd (omega arith)
 dot_set (a ∷ n) [] i v h k = absurd (omega arith)
 dot_set (a ∷ n) (b ∷ p) zero v h k = change a b v (dot n p)
-dot_set (a ∷ n) (b ∷ p) (suc i) v h k = deeper_change (a *ℤ b) (dot n p) (dot n (set p i v)) (entry n i *ℤ (entry p i -ℤ v)) (dot_set n p i v (le_of_suc-le-suc h) (le_of_suc-le-suc k))
+dot_set (a ∷ n) (b ∷ p) (suc i) v h k = deeper_change (a *ℤ b) (dot n p) (dot n (set p i v)) (entry n i *ℤ (entry p i -ℤ v))
+    (dot_set n p i v (le_of_suc-le-suc h) (le_of_suc-le-suc k))
 
 -- the product of a number of 64 bits and a small one
 product_abs : (a d : ℤ) → nat_abs a ≤ 2 ^ 63 → nat_abs d ≤ 2 ^ 34 → nat_abs (a *ℤ d) ≤ 2 ^ 97
-product_abs a d h k = rw unsigned_abs-mul (omega (arith, mul-le-mul_right {m = nat_abs a} {n = 2 ^ 63} (nat_abs d) h, mul-le-mul_left (2 ^ 63) k))
+product_abs a d h k = rw unsigned_abs-mul (omega (
+  arith,
+  mul-le-mul_right {m = nat_abs a} {n = 2 ^ 63} (nat_abs d) h,
+  mul-le-mul_left (2 ^ 63) k,
+))
 
 -- what a gain is: the product with the way to the end that lies on the factor's side
 pub data IsEnd (a low high : ℤ) (end : ℤ) : Type 0 where
@@ -46,13 +51,15 @@ pub data IsEnd (a low high : ℤ) (end : ℤ) : Type 0 where
   rising : pos 0 ≤ℤ a → end ≡ high → IsEnd a low high end
 
 -- it is small
-pub gain_small : (a low high x end g : ℤ) → nat_abs a ≤ 2 ^ 63 → low ≤ℤ x → x ≤ℤ high → nat_abs low ≤ 2 ^ 33 → nat_abs high ≤ 2 ^ 33 → IsEnd a low high end → g ≡ a *ℤ (end -ℤ x) → nat_abs g ≤ 2 ^ 97
+pub gain_small : (a low high x end g : ℤ) → nat_abs a ≤ 2 ^ 63 → low ≤ℤ x → x ≤ℤ high → nat_abs low ≤ 2 ^ 33 → nat_abs high ≤ 2 ^ 33
+    → IsEnd a low high end → g ≡ a *ℤ (end -ℤ x) → nat_abs g ≤ 2 ^ 97
 gain_small a low high x end g h k l m n (falling f e) same = rw same (product_abs a (end -ℤ x) h (omega (arith, ints)))
 gain_small a low high x end g h k l m n (rising f e) same = rw same (product_abs a (end -ℤ x) h (omega (arith, ints)))
 
 -- a product with a factor that is not positive
 turned : (a d : ℤ) → a <ℤ pos 0 → d ≤ℤ pos 0 → pos 0 ≤ℤ (a *ℤ d)
-turned a d h k = let s = simp (neg-*ℤ, *ℤ-neg) at (product_nonnegative (neg_ℤ a) (neg_ℤ d) (omega (arith, linear)) (omega (arith, linear))) in omega (arith, linear)
+turned a d h k = let s = simp (neg-*ℤ, *ℤ-neg) at (product_nonnegative (neg_ℤ a) (neg_ℤ d) (omega (arith, linear))
+    (omega (arith, linear))) in omega (arith, linear)
 
 -- no change of the variable gives more
 pub gain_most : (a low high x end g y : ℤ) → IsEnd a low high end → g ≡ a *ℤ (end -ℤ x) → low ≤ℤ y → y ≤ℤ high → (a *ℤ (y -ℤ x)) ≤ℤ g
@@ -74,7 +81,8 @@ gain_least a low high x end g h k is same =
     omega (arith, linear, gain_most a low high x end g x is same h k, none)
 
 -- at the beginning there is one point alone
-pub start_bound : (n low high x p : List ℤ) (v : ℤ) → length n ≡ length x → IsInBox low high x → IsInBox low high p → AgreesTo (length n) x p → (dot n p +ℤ v) ≤ℤ (dot n x +ℤ v)
+pub start_bound : (n low high x p : List ℤ) (v : ℤ) → length n ≡ length x → IsInBox low high x → IsInBox low high p
+    → AgreesTo (length n) x p → (dot n p +ℤ v) ≤ℤ (dot n x +ℤ v)
 start_bound n low high x p v e h k agrees =
     let a = h.low_dimension in
     let b = k.low_dimension in
@@ -82,7 +90,8 @@ start_bound n low high x p v e h k agrees =
     rw same (omega (arith, linear))
 
 -- a point of the box with one entry of another
-set_in_box : (low high x p : List ℤ) (i : ℕ) → i < length p → IsInBox low high x → IsInBox low high p → IsInBox low high (set p i (entry x i))
+set_in_box : (low high x p : List ℤ) (i : ℕ) → i < length p → IsInBox low high x → IsInBox low high p
+    → IsInBox low high (set p i (entry x i))
 set_in_box low high x p i within h k = record {
   low_dimension = k.low_dimension ∙ sym (length-set p i (entry x i));
   high_dimension = k.high_dimension ∙ sym (length-set p i (entry x i));
@@ -92,8 +101,10 @@ set_in_box low high x p i within h k = record {
     same_or_other : (m : ℕ) → (m ≡ i) ⊎ (m ≢ i)
     same_or_other m = grind arith
 
-    by : (m : ℕ) → m < length p → (m ≡ i) ⊎ (m ≢ i) → (entry low m ≤ℤ entry (set p i (entry x i)) m) × (entry (set p i (entry x i)) m ≤ℤ entry high m)
-    by m l (inl e) = rw (e, get_or-set_same p i (entry x i) (pos 0) within) (h.within i (let a = h.low_dimension in let b = k.low_dimension in omega arith))
+    by : (m : ℕ) → m < length p → (m ≡ i) ⊎ (m ≢ i) → (entry low m ≤ℤ entry (set p i (entry x i)) m)
+        × (entry (set p i (entry x i)) m ≤ℤ entry high m)
+    by m l (inl e) = rw (e, get_or-set_same p i (entry x i) (pos 0) within) (h.within i (let a = h.low_dimension in
+        let b = k.low_dimension in omega arith))
     by m l (inr n) = rw (get_or-set_other p i m (entry x i) (pos 0) n) (k.within m l)
 
 -- it agrees in one more place
@@ -121,7 +132,8 @@ bound_more n low high x p m i v b g b' e within l h bound most same k agrees =
     omega (arith, linear, before, dot_set n p i (entry x i) within place, most (entry p i) w.0 w.1, same)
 
 -- where the bound is negative, the function is
-pub negative_along : (f : Affine) (n low high x low' high' x' : List ℤ) (k k' : ℕ) (v b : ℤ) → n ≡ f.normal → low ≡ low' → high ≡ high' → x ≡ x' → k' ≡ k → b <ℤ pos 0
+pub negative_along : (f : Affine) (n low high x low' high' x' : List ℤ) (k k' : ℕ) (v b : ℤ) → n ≡ f.normal → low ≡ low' → high ≡ high'
+    → x ≡ x' → k' ≡ k → b <ℤ pos 0
     → ((p : List ℤ) → IsInBox low high p → AgreesTo k x p → (dot n p +ℤ v) ≤ℤ (dot n x +ℤ b))
     → (j : ℕ) → v ≡ value_over f x' (pos j) → IsNegativeAlong f j low' high' x' k'
 negative_along f n low high x low' high' x' k k' v b en el eh ex ek negative bound j same p inside agrees =
@@ -151,9 +163,11 @@ test_fails : (z : ℤ) → z <ℤ pos 0 → int_le (pos 0) z ≡ false
 test_fails z h = grind (arith, ints)
 
 -- so no point with the same first entries is inside
-pub rule_out : (fs : List Affine) (i : ℕ) (f : Affine) (j : ℕ) (low high x : List ℤ) (k : ℕ) → i < length fs → f ≡ get_or fs i f → IsNegativeAlong f j low high x k → IsRuledOut fs j low high x k
+pub rule_out : (fs : List Affine) (i : ℕ) (f : Affine) (j : ℕ) (low high x : List ℤ) (k : ℕ) → i < length fs → f ≡ get_or fs i f
+    → IsNegativeAlong f j low high x k → IsRuledOut fs j low high x k
 rule_out fs i f j low high x k within is negative p inside agrees =
-    not_all (λ (g : Affine). int_le (pos 0) (value_over g p (pos j))) f fs (in_from_contains fs (i, within, sym is)) (test_fails (value_over f p (pos j)) (negative p inside agrees))
+    not_all (λ (g : Affine). int_le (pos 0) (value_over g p (pos j))) f fs (in_from_contains fs (i, within, sym is))
+    (test_fails (value_over f p (pos j)) (negative p inside agrees))
 
 -- an end is as small as both
 pub end_small : (a low high end : ℤ) (m : ℕ) → nat_abs low ≤ m → nat_abs high ≤ m → IsEnd a low high end → nat_abs end ≤ m

@@ -14,12 +14,14 @@ use Rattle.lattice_theory.proofs.Vectors.{entry_before, entry_last}
 use Rattle.lattice_theory.proofs.Sizes.{within_reach}
 
 -- each coordinate of a point is within the reach of that coordinate
-pub within_reach_at : (points : List (List ℤ)) (j i : ℕ) (p : List ℤ) → j < length points → p ≡ get_or points j p → nat_abs (entry p i) ≤ reach points i
+pub within_reach_at : (points : List (List ℤ)) (j i : ℕ) (p : List ℤ) → j < length points → p ≡ get_or points j p
+    → nat_abs (entry p i) ≤ reach points i
 within_reach_at points j i p within is = within_reach points i (in_from_contains points (j, within, sym is))
 
 -- a span of the first points, widened to one more
 pub span_more : (points : List (List ℤ)) (i j : ℕ) (p : List ℤ) (low high low' high' : ℤ) → j < length points → p ≡ get_or points j p
-    → All (λ q. (low ≤ℤ entry q i) × (entry q i ≤ℤ high)) (take j points) → low' ≤ℤ low → high ≤ℤ high' → low' ≤ℤ entry p i → entry p i ≤ℤ high'
+    → All (λ q. (low ≤ℤ entry q i) × (entry q i ≤ℤ high)) (take j points) → low' ≤ℤ low → high ≤ℤ high' → low' ≤ℤ entry p i
+    → entry p i ≤ℤ high'
     → All (λ q. (low' ≤ℤ entry q i) × (entry q i ≤ℤ high')) (take (j + 1) points)
 span_more points i j p low high low' high' within is span lower upper p_low p_high =
     let wide : List ℤ → Type 0 = λ q. (low' ≤ℤ entry q i) × (entry q i ≤ℤ high') in
@@ -43,8 +45,10 @@ reach-size (suc n) i points h = by (last_or_below i n h) (λ b. reach-size n i p
     by (inr e) below = let same : reach points i ≡ reach points n = ap (reach points) e in omega arith
 
 -- so j times a coordinate of a span fits 64 bits
-pub product_fits : (points : List (List ℤ)) (n i : ℕ) (d a : ℤ) → i < n → size n points ≤ 2 ^ 30 → nat_abs d ≤ 7 → nat_abs a ≤ reach points i → FitsSigned w64 (d *ℤ a)
-product_fits points n i d a h small l k = let r = reach-size n i points h in fits_signed_mul w64 d a 7 (2 ^ 30) l (omega arith) (omega arith)
+pub product_fits : (points : List (List ℤ)) (n i : ℕ) (d a : ℤ) → i < n → size n points ≤ 2 ^ 30 → nat_abs d ≤ 7
+    → nat_abs a ≤ reach points i → FitsSigned w64 (d *ℤ a)
+product_fits points n i d a h small l k = let r = reach-size n i points h in
+    fits_signed_mul w64 d a 7 (2 ^ 30) l (omega arith) (omega arith)
 
 -- with one more coordinate of both corners, their spans are known up to that one
 pub spans_more : (points : List (List ℤ)) (j i : ℕ) (low high : List ℤ) (a b : ℤ) → length low ≡ i → length high ≡ i

@@ -20,10 +20,12 @@ pub record CanRuleOut (facets : List Affine) (low high x : List ℤ) : Type 0 wh
   pub small_low : absolute_sum low ≤ 2 ^ 33
   pub small_high : absolute_sum high ≤ 2 ^ 33
 
-pub can_rule_out : (n : ℕ) (points : List (List ℤ)) → AreSolid n points → n ≤ 6 → IsSized n points → (facets : List Affine) → AreFacetsInAnyOrder n points facets
+pub can_rule_out : (n : ℕ) (points : List (List ℤ)) → AreSolid n points → n ≤ 6 → IsSized n points → (facets : List Affine)
+    → AreFacetsInAnyOrder n points facets
     → (j : ℕ) → j ≤ 7 → (low high x : List ℤ) (found : List (List ℤ)) → IsAt n points j low high x found → CanRuleOut facets low high x
 can_rule_out n points solid most sized facets are j few low high x found at = record {
-  dimension = All-weaker (Contains facets) (λ f. length f.normal ≡ length x) (λ f c. ((are f).0 c).dimension ∙ sym columns) facets (All-contains_itself facets);
+  dimension = All-weaker (Contains facets) (λ f. length f.normal ≡ length x) (λ f c. ((are f).0 c).dimension ∙ sym columns) facets
+      (All-contains_itself facets);
   constants = constants_small n points facets solid most sized are;
   most = omega (arith, columns);
   small = position_small n points j low high x few sized at.corners at.inside;

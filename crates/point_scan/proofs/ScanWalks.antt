@@ -39,10 +39,12 @@ fewer_left : (n : ℕ) (points : List (List ℤ)) (j : ℕ) (low high x y new : 
     → IsNext (IsInBox low high) y new → left low high new < left low high x
 fewer_left n points j low high x y new corners later next =
     behind_less x new (grid low high) (at_most_less x y new later next.later)
-    (in_from_contains (grid low high) (((grid_lists low high (corners.low_dimension ∙ sym corners.high_dimension)).members new).1 next.holds))
+    (in_from_contains (grid low high) (((grid_lists low high (corners.low_dimension ∙ sym corners.high_dimension)).members new).1
+    next.holds))
 
 -- the same with the corners told by equations
-pub fewer_moved : (n : ℕ) (points : List (List ℤ)) (j : ℕ) (low high x low' high' y low'' high'' new : List ℤ) → AreCorners n points j low' high'
+pub fewer_moved : (n : ℕ) (points : List (List ℤ)) (j : ℕ) (low high x low' high' y low'' high'' new : List ℤ)
+    → AreCorners n points j low' high'
     → LexAtMost x y → IsNext (IsInBox low' high') y new → low' ≡ low → high' ≡ high → low'' ≡ low' → high'' ≡ high'
     → left low'' high'' new < left low high x
 fewer_moved n points j low high x low' high' y low'' high'' new corners later next e f g h =
@@ -60,7 +62,8 @@ module _ (n : ℕ) (points : List (List ℤ)) (solid : AreSolid n points) (j : �
   at_start corners inside = record {
     corners = corners;
     inside = inside;
-    before = none_before (IsDilatePoint n points j) low (λ y d. none_before_lowest low high y (dilate_in_box n points solid j low high corners y d));
+    before = none_before (IsDilatePoint n points j) low
+        (λ y d. none_before_lowest low high y (dilate_in_box n points solid j low high corners y d));
   }
 
   -- a step of the walk
@@ -69,7 +72,8 @@ module _ (n : ℕ) (points : List (List ℤ)) (solid : AreSolid n points) (j : �
   advanced x y found past next = record {
     corners = past.corners;
     inside = next.holds;
-    before = moved_on (IsDilatePoint n points j) n (λ z d. d.dimension) (IsInBox low high) (dilate_in_box n points solid j low high past.corners) x y found
+    before = moved_on (IsDilatePoint n points j) n (λ z d. d.dimension) (IsInBox low high)
+        (dilate_in_box n points solid j low high past.corners) x y found
         (position_dimension x past.corners past.inside) past.up_to next;
   }
 
@@ -87,7 +91,8 @@ module _ (n : ℕ) (points : List (List ℤ)) (solid : AreSolid n points) (j : �
     kept x found at e = record {
       corners = at.corners;
       inside = at.inside;
-      up_to = one_more (IsDilatePoint n points j) x found at.before (inside_is_dilate n points solid j low high at.corners facets are x at.inside e);
+      up_to = one_more (IsDilatePoint n points j) x found at.before
+          (inside_is_dilate n points solid j low high at.corners facets are x at.inside e);
     }
 
     -- points that are ruled out are passed over
@@ -96,7 +101,8 @@ module _ (n : ℕ) (points : List (List ℤ)) (solid : AreSolid n points) (j : �
     passed x y found k at ruled over = record {
       corners = at.corners;
       inside = over.inside;
-      up_to = passed_over (IsDilatePoint n points j) n (λ z d. d.dimension) x y found (position_dimension x at.corners at.inside) at.before over.later none;
+      up_to = passed_over (IsDilatePoint n points j) n (λ z d. d.dimension) x y found (position_dimension x at.corners at.inside) at.before
+          over.later none;
     }
       where
         differ : true ≡ false → ⊥

@@ -21,5 +21,6 @@ solid_segment = record {
 pub solid_ends : (ends : List (List ℤ)) → ends ≡ segment → AreSolidPoints ends
 solid_ends ends e = subst AreSolidPoints (sym e) solid_segment
 
-pub facets_of_ends : (ends : List (List ℤ)) (facets : List Affine) → ends ≡ segment → facets ≡ lower ∷ upper ∷ [] → AreFacetsInAnyOrder (dimension_of ends) ends facets
+pub facets_of_ends : (ends : List (List ℤ)) (facets : List Affine) → ends ≡ segment → facets ≡ lower ∷ upper ∷ []
+    → AreFacetsInAnyOrder (dimension_of ends) ends facets
 facets_of_ends ends facets e f = rw (e, f) segment_facets

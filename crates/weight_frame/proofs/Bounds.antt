@@ -16,17 +16,21 @@ sum_bound a b m n h k = omega (arith, ints)
 
 -- a product in 128 bits
 product_fits : (p a : ℤ) → nat_abs p ≤ 2 ^ 55 → nat_abs a ≤ 2 ^ 40 → SFits w128 (p *ℤ a)
-product_fits p a h k = let b : nat_abs (p *ℤ a) ≤ 2 ^ 55 * 2 ^ 40 = product_bound p a (2 ^ 55) (2 ^ 40) h k in small_fits (p *ℤ a) (omega arith)
+product_fits p a h k = let b : nat_abs (p *ℤ a) ≤ 2 ^ 55 * 2 ^ 40 = product_bound p a (2 ^ 55) (2 ^ 40) h k in
+    small_fits (p *ℤ a) (omega arith)
 
 pub product_exact : (p a r : ℤ) → r ≡ a → nat_abs p ≤ 2 ^ 55 → nat_abs a ≤ 2 ^ 40 → to_z w128 (of_z w128 (p *ℤ r)) ≡ p *ℤ a
 product_exact p a r e h k = rw e (to_z-of_z w128 (p *ℤ a) (product_fits p a h k))
 
 pub product_small : (p a r : ℤ) → r ≡ a → nat_abs p ≤ 2 ^ 55 → nat_abs a ≤ 2 ^ 40 → nat_abs (to_z w128 (of_z w128 (p *ℤ r))) ≤ 2 ^ 95
-product_small p a r e h k = let b : nat_abs (p *ℤ a) ≤ 2 ^ 55 * 2 ^ 40 = product_bound p a (2 ^ 55) (2 ^ 40) h k in rw (product_exact p a r e h k) (omega arith)
+product_small p a r e h k = let b : nat_abs (p *ℤ a) ≤ 2 ^ 55 * 2 ^ 40 = product_bound p a (2 ^ 55) (2 ^ 40) h k in
+    rw (product_exact p a r e h k) (omega arith)
 
 -- what is left of a number beside a product, divided
-left_bound : (d f v : ℤ) → nat_abs d ≤ 2 ^ 55 → nat_abs f ≤ 2 ^ 55 → nat_abs v ≤ 2 ^ 55 → (nat_abs (f *ℤ v) ≤ 2 ^ 110) × (nat_abs (d -ℤ f *ℤ v) ≤ 2 ^ 111)
-left_bound d f v h k l = let b : nat_abs (f *ℤ v) ≤ 2 ^ 55 * 2 ^ 55 = product_bound f v (2 ^ 55) (2 ^ 55) k l in (omega arith, difference_bound d (f *ℤ v) h (omega arith))
+left_bound : (d f v : ℤ) → nat_abs d ≤ 2 ^ 55 → nat_abs f ≤ 2 ^ 55 → nat_abs v ≤ 2 ^ 55 → (nat_abs (f *ℤ v) ≤ 2 ^ 110)
+    × (nat_abs (d -ℤ f *ℤ v) ≤ 2 ^ 111)
+left_bound d f v h k l = let b : nat_abs (f *ℤ v) ≤ 2 ^ 55 * 2 ^ 55 = product_bound f v (2 ^ 55) (2 ^ 55) k l in
+    (omega arith, difference_bound d (f *ℤ v) h (omega arith))
   where
     difference_bound : (d p : ℤ) → nat_abs d ≤ 2 ^ 55 → nat_abs p ≤ 2 ^ 110 → nat_abs (d -ℤ p) ≤ 2 ^ 111
     difference_bound d p h k = omega (arith, ints)
@@ -51,7 +55,8 @@ second_exact b c a u eb eu fits p =
 difference_fits : (a b : ℤ) → nat_abs a ≤ 2 ^ 63 → nat_abs b ≤ 2 ^ 98 → SFits w128 (a -ℤ b)
 difference_fits a b h k = fits_signed_from_abs w128 (a -ℤ b) (omega (arith, ints))
 
-pub divided_exact : (a b d x u : ℤ) → x ≡ a → u ≡ d → nat_abs a ≤ 2 ^ 63 → nat_abs b ≤ 2 ^ 98 → pos 0 <ℤ d → to_z w128 (of_z w128 (int_div (to_z w128 (of_z w128 (x -ℤ b))) u)) ≡ int_div (a -ℤ b) d
+pub divided_exact : (a b d x u : ℤ) → x ≡ a → u ≡ d → nat_abs a ≤ 2 ^ 63 → nat_abs b ≤ 2 ^ 98 → pos 0 <ℤ d
+    → to_z w128 (of_z w128 (int_div (to_z w128 (of_z w128 (x -ℤ b))) u)) ≡ int_div (a -ℤ b) d
 divided_exact a b d x u ex eu h k p =
     let left : SFits w128 (a -ℤ b) = difference_fits a b h k in
     let whole : SFits w128 (int_div (a -ℤ b) d) = quot_fits w128 (a -ℤ b) d left p in

@@ -12,7 +12,8 @@ in_columns : (n m : ℕ) (vectors : List (List ℤ)) (x c : List ℤ) → n ≡ 
 in_columns n m vectors x c e a = rw e a
 
 -- one of them is large
-pub large_answer : (f : Framed) (x : List ℤ) → IsFrameWithinLimit f.systems f.vectors → IsInLattice f.systems x → length x ≡ columns_of f.systems → IsLargeSomewhere f.vectors x → HasLargeCoordinate f x
+pub large_answer : (f : Framed) (x : List ℤ) → IsFrameWithinLimit f.systems f.vectors → IsInLattice f.systems x
+    → length x ≡ columns_of f.systems → IsLargeSomewhere f.vectors x → HasLargeCoordinate f x
 large_answer f x frame inside e large = let one = frame_coordinates f.systems f.vectors x frame inside in record {
   coordinates = one.coefficients;
   are_coordinates = record { inside = inside; are_coordinates = one.are_coordinates };
@@ -20,9 +21,17 @@ large_answer f x frame inside e large = let one = frame_coordinates f.systems f.
 }
 
 -- all of them are found
-pub at_answer : (f : Framed) (x found y : List ℤ) → IsFrameWithinLimit f.systems f.vectors → IsInLattice f.systems x → length x ≡ columns_of f.systems → AreFound f.vectors x found → y ≡ found
+pub at_answer : (f : Framed) (x found y : List ℤ) → IsFrameWithinLimit f.systems f.vectors → IsInLattice f.systems x
+    → length x ≡ columns_of f.systems → AreFound f.vectors x found → y ≡ found
     → HasCoordinates f x y × (largest y ≤ MOST_COORDINATE)
 at_answer f x found y frame inside e are same =
     let one = frame_coordinates f.systems f.vectors x frame inside in
-    let found_is = are.same one.coefficients (in_columns (length x) (columns_of f.systems) f.vectors x one.coefficients e one.are_coordinates) in
-    (record { inside = inside; are_coordinates = subst (AreCoordinates (columns_of f.systems) f.vectors x) (found_is ∙ sym same) one.are_coordinates }, rw same are.within)
+    let found_is = are.same one.coefficients
+    (in_columns (length x) (columns_of f.systems) f.vectors x one.coefficients e one.are_coordinates) in (
+      record {
+        inside = inside;
+        are_coordinates = subst (AreCoordinates (columns_of f.systems) f.vectors x)
+            (found_is ∙ sym same) one.are_coordinates;
+      },
+      rw same are.within,
+    )

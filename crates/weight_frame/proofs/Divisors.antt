@@ -55,7 +55,12 @@ negative_rest a p q r s e f = omega (arith, ints)
 
 pub rest_exists : (a : ℤ) (p : ℕ) → 0 < p → HasRest a p
 rest_exists (pos a) p h = record { quotient = pos (a / p); rest = a % p; whole = omega (arith, ints); below = omega arith }
-rest_exists (negsuc a) p h = record { quotient = negsuc (a / p); rest = p - suc (a % p); whole = negative_rest a p (a / p) (a % p) (p - suc (a % p)) (omega arith) (omega arith); below = omega arith }
+rest_exists (negsuc a) p h = record {
+  quotient = negsuc (a / p);
+  rest = p - suc (a % p);
+  whole = negative_rest a p (a / p) (a % p) (p - suc (a % p)) (omega arith) (omega arith);
+  below = omega arith;
+}
 
 -- the greatest common divisor of one value more: it is that of the value and the one behind, of which it is a combination
 pub record HasCombination (v : ℤ) (after g : ℕ) : Type 0 where
@@ -77,11 +82,14 @@ combination_exists v after = let h = gcd_exists (v ∷ pos after ∷ []) in (
   },
 )
 
-pub greatest_more : (v : ℤ) (values : List ℤ) (after g : ℕ) → IsGreatestDivisor values after → HasCombination v after g → IsGreatestDivisor (v ∷ values) g
+pub greatest_more : (v : ℤ) (values : List ℤ) (after g : ℕ) → IsGreatestDivisor values after → HasCombination v after g
+    → IsGreatestDivisor (v ∷ values) g
 greatest_more v values after g h c = record {
-  divides = all_from_each (more c.divides_left (each_weaker (λ a. divides_through g after a c.divides_right) (each_from_all (DividesInteger after) values h.divides)));
+  divides = all_from_each (more c.divides_left (each_weaker (λ a. divides_through g after a c.divides_right)
+      (each_from_all (DividesInteger after) values h.divides)));
   greatest = λ d all. let each = each_from_all (DividesInteger d) (v ∷ values) all in
-      subst (DividesInteger d) c.combination (divides_sum d (c.left *ℤ v) (c.right *ℤ pos after) (divides_multiple d c.left v (each_head each))
+      subst (DividesInteger d) c.combination
+      (divides_sum d (c.left *ℤ v) (c.right *ℤ pos after) (divides_multiple d c.left v (each_head each))
       (divides_multiple d c.right (pos after) (h.greatest d (all_from_each (each_tail each)))));
 }
 
@@ -106,7 +114,8 @@ pub record HasMultipliers (v : ℤ) (after g : ℕ) : Type 0 where
 pub pos_product : (p g a : ℕ) → p * g ≡ a → pos p *ℤ pos g ≡ pos a
 pos_product p g a e = omega (arith, ints)
 
-pub least_combination : (v a g p q s t m l : ℤ) → p *ℤ g ≡ a → q *ℤ g ≡ v → m *ℤ p +ℤ s ≡ l → l *ℤ v +ℤ t *ℤ a ≡ g → s *ℤ v +ℤ (t +ℤ m *ℤ q) *ℤ a ≡ g
+pub least_combination : (v a g p q s t m l : ℤ) → p *ℤ g ≡ a → q *ℤ g ≡ v → m *ℤ p +ℤ s ≡ l → l *ℤ v +ℤ t *ℤ a ≡ g
+    → s *ℤ v +ℤ (t +ℤ m *ℤ q) *ℤ a ≡ g
 least_combination v a g p q s t m l e f h k =
     let e' = simp products_out at (ap (λ (z : ℤ). (m *ℤ q) *ℤ z) e) in
     let f' = simp products_out at (ap (λ (z : ℤ). (m *ℤ p) *ℤ z) f) in
@@ -126,7 +135,8 @@ multipliers_exist v after g h c =
       are = record {
         behind = p.1;
         here = c.divides_left.1;
-        combination = least_combination v (pos after) (pos g) (pos p.0) c.divides_left.0 (pos r.rest) c.right r.quotient c.left (pos_product p.0 g after p.1) c.divides_left.1 r.whole c.combination;
+        combination = least_combination v (pos after) (pos g) (pos p.0) c.divides_left.0 (pos r.rest) c.right r.quotient c.left
+            (pos_product p.0 g after p.1) c.divides_left.1 r.whole c.combination;
         least = r.below;
       };
     }
@@ -146,7 +156,8 @@ close_numbers s s' p (pos (suc k)) h h' e = absurd (omega (arith, ints))
 close_numbers s s' p (negsuc k) h h' e = absurd (omega (arith, ints))
 
 -- the difference of two first multipliers
-multiple_apart : (p q s t s' t' : ℤ) → s *ℤ q +ℤ t *ℤ p ≡ pos 1 → s' *ℤ q +ℤ t' *ℤ p ≡ pos 1 → s -ℤ s' ≡ ((t' -ℤ t) *ℤ s +ℤ (s -ℤ s') *ℤ t) *ℤ p
+multiple_apart : (p q s t s' t' : ℤ) → s *ℤ q +ℤ t *ℤ p ≡ pos 1 → s' *ℤ q +ℤ t' *ℤ p ≡ pos 1
+    → s -ℤ s' ≡ ((t' -ℤ t) *ℤ s +ℤ (s -ℤ s') *ℤ t) *ℤ p
 multiple_apart p q s t s' t' e f =
     let e' = simp products_out at (ap (λ (z : ℤ). s' *ℤ z) e) in
     let f' = simp products_out at (ap (λ (z : ℤ). s *ℤ z) f) in
@@ -154,7 +165,8 @@ multiple_apart p q s t s' t' e f =
 
 -- the second multiplier is what is left
 second_left : (v a s t t' g : ℤ) → a ≢ pos 0 → s *ℤ v +ℤ t *ℤ a ≡ g → s *ℤ v +ℤ t' *ℤ a ≡ g → t ≡ t'
-second_left v a s t t' g n e f = cancel_left a t t' n (let e' = simp products_out at e in let f' = simp products_out at f in omega (arith, linear))
+second_left v a s t t' g n e f = cancel_left a t t' n (let e' = simp products_out at e in let f' = simp products_out at f in
+    omega (arith, linear))
 
 same_quotient : (q q' g v : ℤ) → g ≢ pos 0 → q *ℤ g ≡ v → q' *ℤ g ≡ v → q ≡ q'
 same_quotient q q' g v n e f = cancel_left g q q' n (*ℤ_comm g q ∙ e ∙ sym f ∙ *ℤ_comm q' g)
@@ -177,7 +189,8 @@ pub record AreSame (p p' : ℕ) (q q' : ℤ) (s s' : ℕ) (t t' : ℤ) : Type 0 
   pub first : s ≡ s'
   pub second : t ≡ t'
 
-first_unique : (v : ℤ) (after g p : ℕ) (q : ℤ) (s : ℕ) (t : ℤ) (s' : ℕ) (t' : ℤ) → 0 < after → AreLeastMultipliers v after g p q s t → AreLeastMultipliers v after g p q s' t' → s ≡ s'
+first_unique : (v : ℤ) (after g p : ℕ) (q : ℤ) (s : ℕ) (t : ℤ) (s' : ℕ) (t' : ℤ) → 0 < after → AreLeastMultipliers v after g p q s t
+    → AreLeastMultipliers v after g p q s' t' → s ≡ s'
 first_unique v after g p q s t s' t' h m n =
     let nonzero = divisor_nonzero p g after h m.behind in
     let whole = pos_product p g after m.behind in
@@ -185,28 +198,50 @@ first_unique v after g p q s t s' t' h m n =
     let f = unit_combination v (pos after) (pos g) (pos p) q (pos s') t' nonzero whole n.here n.combination in
     close_numbers s s' p ((t' -ℤ t) *ℤ pos s +ℤ (pos s -ℤ pos s') *ℤ t) m.least n.least (multiple_apart (pos p) q (pos s) t (pos s') t' e f)
 
-multipliers_apart : (v : ℤ) (after g p : ℕ) (q : ℤ) (s : ℕ) (t : ℤ) (p' : ℕ) (q' : ℤ) (s' : ℕ) (t' : ℤ) → 0 < after → p ≡ p' → q ≡ q' → AreLeastMultipliers v after g p q s t → AreLeastMultipliers v after g p' q' s' t'
+multipliers_apart : (v : ℤ) (after g p : ℕ) (q : ℤ) (s : ℕ) (t : ℤ) (p' : ℕ) (q' : ℤ) (s' : ℕ) (t' : ℤ) → 0 < after → p ≡ p' → q ≡ q'
+    → AreLeastMultipliers v after g p q s t → AreLeastMultipliers v after g p' q' s' t'
     → AreSame p p' q q' s s' t t'
 multipliers_apart v after g p q s t p' q' s' t' h e f m n =
     let n' : AreLeastMultipliers v after g p q s' t' = rw (e, f) n in
     let first = first_unique v after g p q s t s' t' h m n' in
-    record { behind = e; here = f; first = first; second = second_left v (pos after) (pos s) t t' (pos g) (after_nonzero after h) m.combination (rw first n.combination) }
+    record {
+      behind = e;
+      here = f;
+      first = first;
+      second = second_left v (pos after) (pos s) t t' (pos g) (after_nonzero after h) m.combination (rw first n.combination);
+    }
 
-pub multipliers_unique : (v : ℤ) (after g p : ℕ) (q : ℤ) (s : ℕ) (t : ℤ) (p' : ℕ) (q' : ℤ) (s' : ℕ) (t' : ℤ) → 0 < after → AreLeastMultipliers v after g p q s t → AreLeastMultipliers v after g p' q' s' t'
+pub multipliers_unique : (v : ℤ) (after g p : ℕ) (q : ℤ) (s : ℕ) (t : ℤ) (p' : ℕ) (q' : ℤ) (s' : ℕ) (t' : ℤ) → 0 < after
+    → AreLeastMultipliers v after g p q s t → AreLeastMultipliers v after g p' q' s' t'
     → AreSame p p' q q' s s' t t'
 multipliers_unique v after g p q s t p' q' s' t' h m n =
     let nonzero = divisor_nonzero p g after h m.behind in
     multipliers_apart v after g p q s t p' q' s' t' h
-    (same_natural p p' (same_quotient (pos p) (pos p') (pos g) (pos after) nonzero (pos_product p g after m.behind) (pos_product p' g after n.behind)))
+    (same_natural p p' (same_quotient (pos p) (pos p') (pos g) (pos after) nonzero (pos_product p g after m.behind)
+    (pos_product p' g after n.behind)))
     (same_quotient q q' (pos g) v nonzero m.here n.here) m n
 
 -- a value alone, where the ones behind are 0
 pub alone : (v : ℤ) → HasCombination v 0 (nat_abs v)
-alone (pos m) = record { left = pos 1; right = pos 0; combination = omega (arith, ints); divides_left = divides_itself m; divides_right = divides_zero m }
-alone (negsuc m) = record { left = negsuc 0; right = pos 0; combination = omega (arith, ints); divides_left = (negsuc 0, omega (arith, ints)); divides_right = divides_zero (suc m) }
+alone (pos m) = record {
+  left = pos 1;
+  right = pos 0;
+  combination = omega (arith, ints);
+  divides_left = divides_itself m;
+  divides_right = divides_zero m;
+}
+alone (negsuc m) = record {
+  left = negsuc 0;
+  right = pos 0;
+  combination = omega (arith, ints);
+  divides_left = (negsuc 0, omega (arith, ints));
+  divides_right = divides_zero (suc m);
+}
 
-pub only_value : (v : ℤ) (values : List ℤ) (after g : ℕ) → after ≡ 0 → IsGreatestDivisor values after → IsGreatestDivisor (v ∷ values) g → g ≡ nat_abs v
-only_value v values after g e h k = greatest_unique (v ∷ values) g (nat_abs v) k (greatest_more v values 0 (nat_abs v) (subst (IsGreatestDivisor values) e h) (alone v))
+pub only_value : (v : ℤ) (values : List ℤ) (after g : ℕ) → after ≡ 0 → IsGreatestDivisor values after → IsGreatestDivisor (v ∷ values) g
+    → g ≡ nat_abs v
+only_value v values after g e h k =
+    greatest_unique (v ∷ values) g (nat_abs v) k (greatest_more v values 0 (nat_abs v) (subst (IsGreatestDivisor values) e h) (alone v))
 
 -- the next greatest common divisor, with the combination that gives it
 pub record HasNextDivisor (v : ℤ) (values : List ℤ) (after : ℕ) : Type 0 where
@@ -215,4 +250,5 @@ pub record HasNextDivisor (v : ℤ) (values : List ℤ) (after : ℕ) : Type 0 w
   pub combination : HasCombination v after divisor
 
 pub next_divisor : (v : ℤ) (values : List ℤ) (after : ℕ) → IsGreatestDivisor values after → HasNextDivisor v values after
-next_divisor v values after h = let c = combination_exists v after in record { divisor = c.0; greatest = greatest_more v values after c.0 h c.1; combination = c.1 }
+next_divisor v values after h = let c = combination_exists v after in
+    record { divisor = c.0; greatest = greatest_more v values after c.0 h c.1; combination = c.1 }

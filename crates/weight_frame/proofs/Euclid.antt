@@ -20,10 +20,12 @@ pub split_natural : (a b q r : ℕ) → a ≡ q * b + r → pos a ≡ pos q *ℤ
 split_natural a b q r e = omega (arith, ints)
 
 -- the two congruences go on
-pub congruent_step : (a : ℕ) (r f l n g s q h : ℤ) → g ≡ q *ℤ s +ℤ h → n ≡ f -ℤ q *ℤ l → IsCongruent a (f *ℤ r) g → IsCongruent a (l *ℤ r) s → IsCongruent a (n *ℤ r) h
+pub congruent_step : (a : ℕ) (r f l n g s q h : ℤ) → g ≡ q *ℤ s +ℤ h → n ≡ f -ℤ q *ℤ l → IsCongruent a (f *ℤ r) g → IsCongruent a (l *ℤ r) s
+    → IsCongruent a (n *ℤ r) h
 congruent_step a r f l n g s q h e en (x, ex) (y, ey) = (x -ℤ q *ℤ y, congruent_numbers (pos a) r f l n g s q h x y e en ex ey)
   where
-    congruent_numbers : (a r f l n g s q h x y : ℤ) → g ≡ q *ℤ s +ℤ h → n ≡ f -ℤ q *ℤ l → x *ℤ a ≡ f *ℤ r -ℤ g → y *ℤ a ≡ l *ℤ r -ℤ s → (x -ℤ q *ℤ y) *ℤ a ≡ n *ℤ r -ℤ h
+    congruent_numbers : (a r f l n g s q h x y : ℤ) → g ≡ q *ℤ s +ℤ h → n ≡ f -ℤ q *ℤ l → x *ℤ a ≡ f *ℤ r -ℤ g → y *ℤ a ≡ l *ℤ r -ℤ s
+        → (x -ℤ q *ℤ y) *ℤ a ≡ n *ℤ r -ℤ h
     congruent_numbers a r f l n g s q h x y e en ex ey =
         let e' = simp products_out at e in
         let en' = simp products_out at (ap (λ (w : ℤ). w *ℤ r) en) in
@@ -75,10 +77,13 @@ second_from : (s v t a g l : ℤ) → l ≡ g -ℤ s *ℤ v → a *ℤ t ≡ l �
 second_from s v t a g l e f = let f' = *ℤ_comm t a ∙ f ∙ e in omega (arith, linear)
 
 divides_value : (d after r : ℕ) (v k : ℤ) → v ≡ k *ℤ pos after +ℤ pos r → d ∣ after → d ∣ r → DividesInteger d v
-divides_value d after r v k e h i = subst (DividesInteger d) (sym e) (divides_sum d (k *ℤ pos after) (pos r) (divides_multiple d k (pos after) (divides_natural d after h)) (divides_natural d r i))
+divides_value d after r v k e h i =
+    subst (DividesInteger d) (sym e) (divides_sum d (k *ℤ pos after) (pos r) (divides_multiple d k (pos after) (divides_natural d after h))
+    (divides_natural d r i))
 
 pub multipliers_found : (v : ℤ) (r after d : ℕ) (m : ℤ) (s : ℕ) → 0 < after → pos r ≡ int_rem_euclid v (pos after) → IsBezout r after d m
-    → pos s ≡ int_rem_euclid m (pos (after / d)) → s < after / d → AreLeastMultipliers v after d (after / d) (int_div v (pos d)) s (int_div (pos d -ℤ pos s *ℤ v) (pos after))
+    → pos s ≡ int_rem_euclid m (pos (after / d)) → s < after / d
+    → AreLeastMultipliers v after d (after / d) (int_div v (pos d)) s (int_div (pos d -ℤ pos s *ℤ v) (pos after))
 multipliers_found v r after d m s h er found es below =
     let k = rest_is v after h in
     let ev : v ≡ k.0 *ℤ pos after +ℤ pos r = rw er k.1 in
@@ -91,10 +96,17 @@ multipliers_found v r after d m s h er found es below =
     let some = value_combination v (pos after) k.0 (pos r) m (pos d) y.0 ev y.1 in
     let l = rest_is m p (positive_part p d after h behind) in
     let em : m ≡ l.0 *ℤ pos p +ℤ pos s = rw es l.1 in
-    let least = least_combination v (pos after) (pos d) (pos p) (int_div v (pos d)) (pos s) t l.0 m (pos_product p d after behind) here (sym em) some in
+    let least = least_combination v (pos after) (pos d) (pos p) (int_div v (pos d)) (pos s) t l.0 m (pos_product p d after behind) here
+    (sym em) some in
     let left = pos d -ℤ pos s *ℤ v in
-    let exact = exact_quotient left after (natural_divides after left (_, what_is_left (pos s) v (t +ℤ l.0 *ℤ int_div v (pos d)) (pos after) (pos d) least)) in
-    record { behind = behind; here = here; combination = second_from (pos s) v (int_div left (pos after)) (pos after) (pos d) left refl exact; least = below }
+    let exact = exact_quotient left after
+    (natural_divides after left (_, what_is_left (pos s) v (t +ℤ l.0 *ℤ int_div v (pos d)) (pos after) (pos d) least)) in
+    record {
+      behind = behind;
+      here = here;
+      combination = second_from (pos s) v (int_div left (pos after)) (pos after) (pos d) left refl exact;
+      least = below;
+    }
 
 -- the divisor and its quotient aren't 0, and the divisor is small
 divisor_below : (d after : ℕ) → 0 < after → d ∣ after → d ≤ after
@@ -136,7 +148,8 @@ second_size s v t a g e = omega (arith, ints)
 small_second : (t v after : ℕ) → 0 < after → t * after ≤ after + after * v → t ≤ v + 1
 small_second t v after h e = le_of_mul-le-mul_left {m = t} {n = v + 1} {k = after} (omega arith) h
 
-pub multipliers_small : (v : ℤ) (after g p : ℕ) (q : ℤ) (s : ℕ) (t : ℤ) → 0 < after → AreLeastMultipliers v after g p q s t → AreSmallMultipliers v after g p q s t
+pub multipliers_small : (v : ℤ) (after g p : ℕ) (q : ℤ) (s : ℕ) (t : ℤ) → 0 < after → AreLeastMultipliers v after g p q s t
+    → AreSmallMultipliers v after g p q s t
 multipliers_small v after g p q s t h m =
     let positive = positive_part p g after h m.behind in
     let divisor_positive : 0 < g = positive_part g p after h (mul_comm g p ∙ m.behind) in
@@ -144,11 +157,20 @@ multipliers_small v after g p q s t h m =
     let divisor = small_factor g p after positive (mul_comm g p ∙ m.behind) in
     let size : nat_abs (t *ℤ pos after) ≤ g + nat_abs (pos s *ℤ v) = second_size (pos s) v t (pos after) (pos g) m.combination in
     let left : nat_abs (t *ℤ pos after) ≡ nat_abs t * after = unsigned_abs-mul t (pos after) in
-    let right : nat_abs (pos s *ℤ v) ≤ after * nat_abs v = product_bound (pos s) v after (nat_abs v) (let l = m.least in omega arith) (omega arith) in
-    record { divisor = divisor; behind = behind; here = small_quotient q v g divisor_positive m.here; first = let l = m.least in omega arith; second = small_second (nat_abs t) (nat_abs v) after h (omega arith) }
+    let right : nat_abs (pos s *ℤ v) ≤ after * nat_abs v = product_bound (pos s) v after (nat_abs v) (let l = m.least in
+    omega arith) (omega arith) in
+    record {
+      divisor = divisor;
+      behind = behind;
+      here = small_quotient q v g divisor_positive m.here;
+      first = let l = m.least in
+          omega arith;
+      second = small_second (nat_abs t) (nat_abs v) after h (omega arith);
+    }
 
 -- the greatest common divisor with one value more
-pub multipliers_divisor : (v : ℤ) (after g p : ℕ) (q : ℤ) (s : ℕ) (t : ℤ) → AreLeastMultipliers v after g p q s t → (values : List ℤ) → IsGreatestDivisor values after → IsGreatestDivisor (v ∷ values) g
+pub multipliers_divisor : (v : ℤ) (after g p : ℕ) (q : ℤ) (s : ℕ) (t : ℤ) → AreLeastMultipliers v after g p q s t → (values : List ℤ)
+    → IsGreatestDivisor values after → IsGreatestDivisor (v ∷ values) g
 multipliers_divisor v after g p q s t m values d = greatest_more v values after g d (record {
   left = pos s;
   right = t;

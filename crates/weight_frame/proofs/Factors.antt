@@ -31,7 +31,8 @@ whole_step a b g l q r after e h =
     let same : (q * b) * l ≡ b * (q * l) = ap (λ (n : ℕ). n * l) (mul_comm q b) ∙ mul_assoc b q l in
     omega arith
 
-pub factors_step : (after g l q r : ℕ) (f x n : ℤ) → g ≡ q * l + r → n ≡ f -ℤ pos q *ℤ x → AreFactors after g l f x → AreFactors after l r x n
+pub factors_step : (after g l q r : ℕ) (f x n : ℤ) → g ≡ q * l + r → n ≡ f -ℤ pos q *ℤ x → AreFactors after g l f x
+    → AreFactors after l r x n
 factors_step after g l q r f x n e en a = record {
   first = a.second;
   second = a.first + q * a.second;

@@ -28,7 +28,8 @@ largest_opposite [] = refl
 largest_opposite (a ∷ x) = rw (opposite_abs a, largest_opposite x) refl
 
 -- one entry more
-pub largest_more : (x : List ℤ) (i so_far next : ℕ) → i < length x → next ≡ max so_far (nat_abs (entry x i)) → max so_far (largest (drop i x)) ≡ largest x → max next (largest (drop (i + 1) x)) ≡ largest x
+pub largest_more : (x : List ℤ) (i so_far next : ℕ) → i < length x → next ≡ max so_far (nat_abs (entry x i))
+    → max so_far (largest (drop i x)) ≡ largest x → max next (largest (drop (i + 1) x)) ≡ largest x
 largest_more x i so_far next within n e =
     let here : max so_far (max (nat_abs (entry x i)) (largest (drop (i + 1) x))) ≡ largest x = rw (drop_more x i (pos 0) within) at e in
     omega arith
@@ -48,14 +49,18 @@ pub zero_small : (n : ℕ) (x : List ℤ) → IsZeroVector n x → largest x ≤
 zero_small n x h = largest_at_most x MOST_FRAME_ENTRY (λ i. zero_abs (entry x i) MOST_FRAME_ENTRY (h.zeros i))
 
 pub unit_small : (n i : ℕ) (x : List ℤ) → IsUnitVector n i x → largest x ≤ MOST_FRAME_ENTRY
-unit_small n i x h = largest_at_most x MOST_FRAME_ENTRY (λ j. ⊎_elim (λ (e : j ≡ i). rw e (one_abs (entry x i) MOST_FRAME_ENTRY (omega arith) h.one)) (λ (d : j ≢ i). zero_abs (entry x j) MOST_FRAME_ENTRY (h.zeros j d)) (cases_eq j i))
+unit_small n i x h = largest_at_most x MOST_FRAME_ENTRY
+    (λ j. ⊎_elim (λ (e : j ≡ i). rw e (one_abs (entry x i) MOST_FRAME_ENTRY (omega arith) h.one))
+    (λ (d : j ≢ i). zero_abs (entry x j) MOST_FRAME_ENTRY (h.zeros j d)) (cases_eq j i))
 
 -- one entry of the opposite vector
 opposite_entry : (a r : ℤ) → r ≡ pos 0 -ℤ a → r ≡ negsuc 0 *ℤ a
 opposite_entry a r e = omega (arith, ints)
 
-pub opposite_more : (x old new : List ℤ) (i : ℕ) (r : ℤ) → i < length x → r ≡ pos 0 -ℤ entry x i → new ≡ old ++ (r ∷ []) → old ≡ scaled (negsuc 0) (take i x) → new ≡ scaled (negsuc 0) (take (i + 1) x)
-opposite_more x old new i r h e n b = n ∙ ap₂ (λ (u : List ℤ) (a : ℤ). u ++ (a ∷ [])) b (opposite_entry (entry x i) r e) ∙ sym (ap (scaled (negsuc 0)) (take_more x i (pos 0) h) ∙ map-append (λ (a : ℤ). negsuc 0 *ℤ a) (take i x) (entry x i ∷ []))
+pub opposite_more : (x old new : List ℤ) (i : ℕ) (r : ℤ) → i < length x → r ≡ pos 0 -ℤ entry x i → new ≡ old ++ (r ∷ [])
+    → old ≡ scaled (negsuc 0) (take i x) → new ≡ scaled (negsuc 0) (take (i + 1) x)
+opposite_more x old new i r h e n b = n ∙ ap₂ (λ (u : List ℤ) (a : ℤ). u ++ (a ∷ [])) b (opposite_entry (entry x i) r e)
+    ∙ sym (ap (scaled (negsuc 0)) (take_more x i (pos 0) h) ∙ map-append (λ (a : ℤ). negsuc 0 *ℤ a) (take i x) (entry x i ∷ []))
 
 -- it fits 64 bits
 pub opposite_fits : (x : List ℤ) (i : ℕ) → largest x ≤ MOST_FRAME_ENTRY → SFits w64 (pos 0 -ℤ entry x i)
@@ -63,4 +68,6 @@ opposite_fits x i h = let k = entry_at_most x i in fits_signed_from_abs w64 (pos
 
 -- a bound on each entry bounds the largest
 pub largest_of_all : (x : List ℤ) (m : ℕ) → All (λ a. nat_abs a ≤ m) x → largest x ≤ m
-largest_of_all x m h = largest_at_most x m (λ i. ⊎_elim (λ (below : i < length x). h i (pos 0) below) (λ (above : length x ≤ i). zero_abs (entry x i) m (entry_past x i above)) (cases_lt i (length x)))
+largest_of_all x m h = largest_at_most x m
+    (λ i. ⊎_elim (λ (below : i < length x). h i (pos 0) below) (λ (above : length x ≤ i). zero_abs (entry x i) m (entry_past x i above))
+    (cases_lt i (length x)))

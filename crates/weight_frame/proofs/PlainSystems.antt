@@ -51,7 +51,8 @@ plain_system degree weights e =
 is_summed_system : (n : ℕ) (system : Weighted) → IsSmallSystem n system.degree system.weights → IsSummed n system
 is_summed_system n system h = record { columns = h.count; sum = h.sum; positive = h.least }
 
-formed_from : (first : Weighted) (others : List Weighted) → IsPlainSystem first.degree first.weights → Each (IsSummed (length first.weights)) others → AreWellFormed (first ∷ others)
+formed_from : (first : Weighted) (others : List Weighted) → IsPlainSystem first.degree first.weights
+    → Each (IsSummed (length first.weights)) others → AreWellFormed (first ∷ others)
 formed_from first others p h = record {
   some = omega arith;
   summed = all_from_each {P = IsSummed (length first.weights)} (more (is_summed_system (length first.weights) first p.small) h);
@@ -72,10 +73,13 @@ limited_one first e =
       product = omega arith;
     }
 
-pub formed_two : (first second : Weighted) → is_plain first.degree first.weights ≡ true → is_summed (length first.weights) second.degree second.weights ≡ true → AreWellFormed (first ∷ second ∷ [])
-formed_two first second e f = formed_from first (second ∷ []) (plain_system first.degree first.weights e) (more (is_summed_system (length first.weights) second (summed_small (length first.weights) second.degree second.weights f)) empty)
+pub formed_two : (first second : Weighted) → is_plain first.degree first.weights ≡ true
+    → is_summed (length first.weights) second.degree second.weights ≡ true → AreWellFormed (first ∷ second ∷ [])
+formed_two first second e f = formed_from first (second ∷ []) (plain_system first.degree first.weights e)
+    (more (is_summed_system (length first.weights) second (summed_small (length first.weights) second.degree second.weights f)) empty)
 
-pub limited_two : (first second : Weighted) → is_plain first.degree first.weights ≡ true → is_summed (length first.weights) second.degree second.weights ≡ true → AreWithinLimits (first ∷ second ∷ [])
+pub limited_two : (first second : Weighted) → is_plain first.degree first.weights ≡ true
+    → is_summed (length first.weights) second.degree second.weights ≡ true → AreWithinLimits (first ∷ second ∷ [])
 limited_two first second e f =
     let p = plain_system first.degree first.weights e in
     let q = summed_small (length first.weights) second.degree second.weights f in

@@ -15,10 +15,12 @@ use Rattle.weight_frame.proofs.Frames.{exchanged_exists}
 
 -- vectors within the limit
 pub within_append : (xs ys : List (List ℤ)) → AreWithinEntryLimit xs → AreWithinEntryLimit ys → AreWithinEntryLimit (xs ++ ys)
-within_append xs ys h k = all_from_each {P = λ x. largest x ≤ MOST_FRAME_ENTRY} (each_append (each_from_all (λ x. largest x ≤ MOST_FRAME_ENTRY) xs h) (each_from_all (λ x. largest x ≤ MOST_FRAME_ENTRY) ys k))
+within_append xs ys h k = all_from_each {P = λ x. largest x ≤ MOST_FRAME_ENTRY}
+    (each_append (each_from_all (λ x. largest x ≤ MOST_FRAME_ENTRY) xs h) (each_from_all (λ x. largest x ≤ MOST_FRAME_ENTRY) ys k))
 
 -- the first vector above the limit
-pub first_behind : (xs ys : List (List ℤ)) (told : ℕ) → AreWithinEntryLimit xs → IsFirstAboveLimit ys told → IsFirstAboveLimit (xs ++ ys) told
+pub first_behind : (xs ys : List (List ℤ)) (told : ℕ) → AreWithinEntryLimit xs → IsFirstAboveLimit ys told
+    → IsFirstAboveLimit (xs ++ ys) told
 first_behind xs ys told h f = record {
   before = xs ++ f.before;
   vector = f.vector;
@@ -48,7 +50,8 @@ dimension_append : (n : ℕ) (xs ys : List (List ℤ)) → AreSized n xs → All
 dimension_append n xs ys h k = all_from_each {P = λ x. length x ≡ n} (each_append h (sized_from_all n ys k))
 
 -- a step keeps at most one vector
-one_kept : (n : ℕ) (u : List ℤ) (v : ℤ) (h : List ℤ) (after g : ℕ) (k : List (List ℤ)) (x : List ℤ) → Exchange n u v h after g k x → length k ≤ 1
+one_kept : (n : ℕ) (u : List ℤ) (v : ℤ) (h : List ℤ) (after g : ℕ) (k : List (List ℤ)) (x : List ℤ) → Exchange n u v h after g k x
+    → length k ≤ 1
 one_kept n u v h after g _ _ (keeps a b i) = omega arith
 one_kept n u v h after g _ _ (takes a b) = omega arith
 one_kept n u v h after g _ _ (turns a b) = omega arith
@@ -68,7 +71,8 @@ reached_none n system h z l = record {
 }
 
 -- one step more
-pub reached_more : (n : ℕ) (system : Weighted) (u : List ℤ) (us kept : List (List ℤ)) (last : List ℤ) (after : ℕ) (k : List (List ℤ)) (x : List ℤ) (g : ℕ) → length u ≡ n → IsReached n system us kept last after
+pub reached_more : (n : ℕ) (system : Weighted) (u : List ℤ) (us kept : List (List ℤ)) (last : List ℤ) (after : ℕ) (k : List (List ℤ))
+    (x : List ℤ) (g : ℕ) → length u ≡ n → IsReached n system us kept last after
     → IsStep n u (weighted_degree system u) last after k x g → IsReached n system (u ∷ us) (k ++ kept) x g
 reached_more n system u us kept last after k x g l r s =
     let sizes = step_lengths n u (weighted_degree system u) last after g k x l s.step in
@@ -76,9 +80,13 @@ reached_more n system u us kept last after k x g l r s =
     let count = r.count in
     record {
       made = r.made ++ (k ++ (x ∷ []));
-      exchanged = one_more r.exchanged (s.divisor (degrees_of system us) (recursion_divisor n system us kept last after r.made r.exchanged)) s.step;
+      exchanged = one_more r.exchanged
+          (s.divisor (degrees_of system us) (recursion_divisor n system us kept last after r.made r.exchanged)) s.step;
       within = within_append r.made (k ++ (x ∷ [])) r.within (within_append k (x ∷ []) s.kept (within_one x s.last));
-      small = record { dimension = dimension_append n k kept sizes.kept r.small.dimension; within = within_append k kept s.kept r.small.within };
+      small = record {
+        dimension = dimension_append n k kept sizes.kept r.small.dimension;
+        within = within_append k kept s.kept r.small.within;
+      };
       count = omega (arith, length-append k kept);
       dimension = sizes.last;
       last_within = s.last;
@@ -86,20 +94,29 @@ reached_more n system u us kept last after k x g l r s =
     }
 
 -- one step more, which makes a vector above the limit
-pub above_more : (n : ℕ) (system : Weighted) (u : List ℤ) (us kept : List (List ℤ)) (last : List ℤ) (after told : ℕ) → IsReached n system us kept last after → IsStepAbove n u (weighted_degree system u) last after told → IsAbove n system (u ∷ us) told
+pub above_more : (n : ℕ) (system : Weighted) (u : List ℤ) (us kept : List (List ℤ)) (last : List ℤ) (after told : ℕ)
+    → IsReached n system us kept last after → IsStepAbove n u (weighted_degree system u) last after told → IsAbove n system (u ∷ us) told
 above_more n system u us kept last after told r s = record {
   kept = s.k ++ kept;
   last = s.next;
   divisor = s.g;
   made = r.made ++ (s.k ++ (s.next ∷ []));
-  exchanged = one_more r.exchanged (s.divisor (degrees_of system us) (recursion_divisor n system us kept last after r.made r.exchanged)) s.step;
+  exchanged = one_more r.exchanged
+      (s.divisor (degrees_of system us) (recursion_divisor n system us kept last after r.made r.exchanged)) s.step;
   first = first_behind r.made (s.k ++ (s.next ∷ [])) told r.within s.first;
 }
 
 -- the recursion goes on behind it
-above_with : (n : ℕ) (system : Weighted) (u : List ℤ) (us : List (List ℤ)) (told : ℕ) → length u ≡ n → AreSized n us → IsAbove n system us told → IsAbove n system (u ∷ us) told
+above_with : (n : ℕ) (system : Weighted) (u : List ℤ) (us : List (List ℤ)) (told : ℕ) → length u ≡ n → AreSized n us
+    → IsAbove n system us told → IsAbove n system (u ∷ us) told
 above_with n system u us told l s a =
-    let r : HasRecursion n system us = record { kept = a.kept; last = a.last; divisor = a.divisor; made = a.made; exchanged = a.exchanged } in
+    let r : HasRecursion n system us = record {
+      kept = a.kept;
+      last = a.last;
+      divisor = a.divisor;
+      made = a.made;
+      exchanged = a.exchanged;
+    } in
     let x = recursion_more n system u us l s r in
     record {
       kept = x.kept ++ a.kept;
@@ -110,10 +127,12 @@ above_with n system u us told l s a =
       first = first_before a.made (x.kept ++ (x.last ∷ [])) told a.first;
     }
 
-pub above_drop : (n : ℕ) (system : Weighted) (i : ℕ) (us : List (List ℤ)) (told : ℕ) → AreSized n us → IsAbove n system (drop i us) told → IsAbove n system us told
+pub above_drop : (n : ℕ) (system : Weighted) (i : ℕ) (us : List (List ℤ)) (told : ℕ) → AreSized n us → IsAbove n system (drop i us) told
+    → IsAbove n system us told
 above_drop n system zero us told s a = a
 above_drop n system (suc i) [] told s a = a
-above_drop n system (suc i) (u ∷ us) told s a = above_with n system u us told (each_head s) (each_tail s) (above_drop n system i us told (each_tail s) a)
+above_drop n system (suc i) (u ∷ us) told s a =
+    above_with n system u us told (each_head s) (each_tail s) (above_drop n system i us told (each_tail s) a)
 
 -- the unit vectors
 pub units_reached : (n : ℕ) (vectors : List (List ℤ)) → AreUnitVectors n vectors → AreReached n [] vectors
@@ -131,13 +150,17 @@ units_reached n vectors u = record {
 }
 
 -- the systems one after another
-pub exchanged_append : (n : ℕ) (systems others : List Weighted) (us vectors ws made later : List (List ℤ)) → AreExchanged n systems us vectors made → AreExchanged n others vectors ws later → AreExchanged n (systems ++ others) us ws (made ++ later)
+pub exchanged_append : (n : ℕ) (systems others : List Weighted) (us vectors ws made later : List (List ℤ))
+    → AreExchanged n systems us vectors made → AreExchanged n others vectors ws later
+    → AreExchanged n (systems ++ others) us ws (made ++ later)
 exchanged_append n _ others us _ ws _ later done f = f
 exchanged_append n _ others us vectors ws _ later (next {system = w} {systems = rest} {ks = ks} {made = made} {later = behind} e f) g =
-    subst (λ (z : List (List ℤ)). AreExchanged n (w ∷ (rest ++ others)) us ws z) (sym (append_assoc made behind later)) (next e (exchanged_append n rest others ks vectors ws behind later f g))
+    subst (λ (z : List (List ℤ)). AreExchanged n (w ∷ (rest ++ others)) us ws z) (sym (append_assoc made behind later))
+    (next e (exchanged_append n rest others ks vectors ws behind later f g))
 
 -- one system more
-pub reached_system : (n : ℕ) (systems : List Weighted) (system : Weighted) (us kept : List (List ℤ)) (last : List ℤ) (divisor : ℕ) → AreReached n systems us → IsReached n system us kept last divisor → AreReached n (systems ++ (system ∷ [])) kept
+pub reached_system : (n : ℕ) (systems : List Weighted) (system : Weighted) (us kept : List (List ℤ)) (last : List ℤ) (divisor : ℕ)
+    → AreReached n systems us → IsReached n system us kept last divisor → AreReached n (systems ++ (system ∷ [])) kept
 reached_system n systems system us kept last divisor a r = record {
   units = a.units;
   are_units = a.are_units;
@@ -149,7 +172,8 @@ reached_system n systems system us kept last divisor a r = record {
 }
 
 -- a vector above the limit in the recursion of some system
-pub exceeds : (systems before behind : List Weighted) (system : Weighted) (us : List (List ℤ)) (told : ℕ) → systems ≡ before ++ (system ∷ behind) → AreReached (columns_of systems) before us → IsAbove (columns_of systems) system us told
+pub exceeds : (systems before behind : List Weighted) (system : Weighted) (us : List (List ℤ)) (told : ℕ)
+    → systems ≡ before ++ (system ∷ behind) → AreReached (columns_of systems) before us → IsAbove (columns_of systems) system us told
     → ExceedsEntryLimit systems told
 exceeds systems before behind system us told e a x =
     let n = columns_of systems in
@@ -162,16 +186,22 @@ exceeds systems before behind system us told e a x =
         units = a.units;
         are_units = a.are_units;
         exchanged = subst (λ (z : List Weighted). AreExchanged n z a.units later.vectors (a.made ++ (x.made ++ later.made))) (sym e)
-            (exchanged_append n before (system ∷ behind) a.units us later.vectors a.made (x.made ++ later.made) a.exchanged (next x.exchanged later.exchanged));
+            (exchanged_append n before (system ∷ behind) a.units us later.vectors a.made (x.made ++ later.made) a.exchanged
+            (next x.exchanged later.exchanged));
       };
       first = first_behind a.made (x.made ++ later.made) told a.within (first_before x.made later.made told x.first);
     }
 
 -- all systems
-pub reached_all : (systems done_with : List Weighted) (vectors : List (List ℤ)) → done_with ≡ systems → AreReached (columns_of systems) done_with vectors → IsFrameWithinLimit systems vectors
+pub reached_all : (systems done_with : List Weighted) (vectors : List (List ℤ)) → done_with ≡ systems
+    → AreReached (columns_of systems) done_with vectors → IsFrameWithinLimit systems vectors
 reached_all systems done_with vectors e a = record {
   made = a.made;
-  recursion = record { units = a.units; are_units = a.are_units; exchanged = subst (λ (z : List Weighted). AreExchanged (columns_of systems) z a.units vectors a.made) e a.exchanged };
+  recursion = record {
+    units = a.units;
+    are_units = a.are_units;
+    exchanged = subst (λ (z : List Weighted). AreExchanged (columns_of systems) z a.units vectors a.made) e a.exchanged;
+  };
   within = a.within;
 }
 
@@ -180,7 +210,8 @@ pub record IsSmallVector (n : ℕ) (u : List ℤ) : Type 0 where
   pub dimension : length u ≡ n
   pub within : largest u ≤ MOST_FRAME_ENTRY
 
-pub vector_at : (n : ℕ) (us : List (List ℤ)) (i : ℕ) (u : List ℤ) → AreSmallVectors n us → i < length us → u ≡ get_or us i u → IsSmallVector n u
+pub vector_at : (n : ℕ) (us : List (List ℤ)) (i : ℕ) (u : List ℤ) → AreSmallVectors n us → i < length us → u ≡ get_or us i u
+    → IsSmallVector n u
 vector_at n us i u s h e = record {
   dimension = ap length e ∙ s.dimension i u h;
   within = subst (λ (x : List ℤ). largest x ≤ MOST_FRAME_ENTRY) (sym e) (s.within i u h);
@@ -190,16 +221,20 @@ at_place : (us : List (List ℤ)) (i : ℕ) (u : List ℤ) → i < length us →
 at_place us i u h e = drop_more us i u h ∙ ap (λ (x : List ℤ). x ∷ drop (i + 1) us) (sym e)
 
 -- the step at a place
-pub reached_at : (n : ℕ) (system : Weighted) (us : List (List ℤ)) (i : ℕ) (u : List ℤ) (v : ℤ) (kept : List (List ℤ)) (last : List ℤ) (after : ℕ) (k : List (List ℤ)) (x : List ℤ) (g : ℕ) (new : List (List ℤ))
-    → AreSmallVectors n us → i < length us → u ≡ get_or us i u → v ≡ weighted_degree system u → IsReached n system (drop (i + 1) us) kept last after → IsStep (length u) u v last after k x g → new ≡ k ++ kept
+pub reached_at : (n : ℕ) (system : Weighted) (us : List (List ℤ)) (i : ℕ) (u : List ℤ) (v : ℤ) (kept : List (List ℤ)) (last : List ℤ)
+    (after : ℕ) (k : List (List ℤ)) (x : List ℤ) (g : ℕ) (new : List (List ℤ))
+    → AreSmallVectors n us → i < length us → u ≡ get_or us i u → v ≡ weighted_degree system u
+    → IsReached n system (drop (i + 1) us) kept last after → IsStep (length u) u v last after k x g → new ≡ k ++ kept
     → IsReached n system (drop i us) new x g
 reached_at n system us i u v kept last after k x g new s h e f r t m =
     let l = (vector_at n us i u s h e).dimension in
     let step : IsStep n u (weighted_degree system u) last after k x g = rw (l, f) at t in
     rw (at_place us i u h e, m) (reached_more n system u (drop (i + 1) us) kept last after k x g l r step)
 
-pub above_at : (n : ℕ) (system : Weighted) (us : List (List ℤ)) (i : ℕ) (u : List ℤ) (v : ℤ) (kept : List (List ℤ)) (last : List ℤ) (after told : ℕ)
-    → AreSmallVectors n us → i < length us → u ≡ get_or us i u → v ≡ weighted_degree system u → IsReached n system (drop (i + 1) us) kept last after → IsStepAbove (length u) u v last after told
+pub above_at : (n : ℕ) (system : Weighted) (us : List (List ℤ)) (i : ℕ) (u : List ℤ) (v : ℤ) (kept : List (List ℤ)) (last : List ℤ)
+    (after told : ℕ)
+    → AreSmallVectors n us → i < length us → u ≡ get_or us i u → v ≡ weighted_degree system u
+    → IsReached n system (drop (i + 1) us) kept last after → IsStepAbove (length u) u v last after told
     → IsAbove n system (drop i us) told
 above_at n system us i u v kept last after told s h e f r t =
     let l = (vector_at n us i u s h e).dimension in
@@ -207,14 +242,19 @@ above_at n system us i u v kept last after told s h e f r t =
     rw (at_place us i u h e) (above_more n system u (drop (i + 1) us) kept last after told r step)
 
 -- after the last step
-pub reached_end : (n : ℕ) (system : Weighted) (us : List (List ℤ)) (i : ℕ) (kept : List (List ℤ)) (last : List ℤ) (divisor : ℕ) → i ≡ 0 → IsReached n system (drop i us) kept last divisor → IsReached n system us kept last divisor
+pub reached_end : (n : ℕ) (system : Weighted) (us : List (List ℤ)) (i : ℕ) (kept : List (List ℤ)) (last : List ℤ) (divisor : ℕ) → i ≡ 0
+    → IsReached n system (drop i us) kept last divisor → IsReached n system us kept last divisor
 reached_end n system us i kept last divisor e r = rw e at r
 
 -- one system more, at the place of the program's systems
-pub next_reached : (n m : ℕ) (systems others : List Weighted) (system : Weighted) (us vs kept : List (List ℤ)) (last : List ℤ) (divisor : ℕ) → m ≡ n → vs ≡ us → others ≡ systems ++ (system ∷ []) → AreReached n systems us → IsReached m system vs kept last divisor
+pub next_reached : (n m : ℕ) (systems others : List Weighted) (system : Weighted) (us vs kept : List (List ℤ)) (last : List ℤ) (divisor : ℕ)
+    → m ≡ n → vs ≡ us → others ≡ systems ++ (system ∷ []) → AreReached n systems us → IsReached m system vs kept last divisor
     → AreReached n others kept
-next_reached n m systems others system us vs kept last divisor e f o a r = rw o (reached_system n systems system us kept last divisor a (rw (e, f) at r))
+next_reached n m systems others system us vs kept last divisor e f o a r =
+    rw o (reached_system n systems system us kept last divisor a (rw (e, f) at r))
 
-pub next_exceeds : (systems before behind : List Weighted) (system : Weighted) (m : ℕ) (us vs : List (List ℤ)) (told : ℕ) → m ≡ columns_of systems → vs ≡ us → systems ≡ before ++ (system ∷ behind) → AreReached (columns_of systems) before us → IsAbove m system vs told
+pub next_exceeds : (systems before behind : List Weighted) (system : Weighted) (m : ℕ) (us vs : List (List ℤ)) (told : ℕ)
+    → m ≡ columns_of systems → vs ≡ us → systems ≡ before ++ (system ∷ behind) → AreReached (columns_of systems) before us
+    → IsAbove m system vs told
     → ExceedsEntryLimit systems told
 next_exceeds systems before behind system m us vs told e f o a x = exceeds systems before behind system us told o a (rw (e, f) at x)

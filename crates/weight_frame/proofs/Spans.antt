@@ -36,16 +36,33 @@ exchanged_part a m u h k x p q s t e f g =
     let second = simp products_out at (ap (λ (z : ℤ). (m *ℤ h) *ℤ z) e) in
     rw (f, g) (simp products_out (omega (arith, linear)))
 
-step_splits : (n : ℕ) (u : List ℤ) (v : ℤ) (h : List ℤ) (after g : ℕ) (k : List (List ℤ)) (next : List ℤ) (a m : ℤ) → (after ≡ 0 → IsZeroVector n h) → Exchange n u v h after g k next → SplitsStep u a h m k next
-step_splits n u v h after g _ _ a m z (keeps {zero = x} e f i) = record { coefficients = a ∷ []; multiple = pos 0; count = refl; entries = λ j. kept_part a m (entry u j) (entry h j) (entry x j) ((z e).zeros j) (i.zeros j) }
-step_splits n u v h after g _ _ a m z (takes e f) = record { coefficients = []; multiple = a; count = refl; entries = λ j. taken_part a m (entry u j) (entry h j) ((z e).zeros j) }
-step_splits n u v h after g _ _ a m z (turns e f) = record { coefficients = []; multiple = neg_ℤ a; count = refl; entries = λ j. turned_part a m (entry u j) (entry h j) (entry (scaled (negsuc 0) u) j) ((z e).zeros j) (entry-scaled (negsuc 0) u j) }
+step_splits : (n : ℕ) (u : List ℤ) (v : ℤ) (h : List ℤ) (after g : ℕ) (k : List (List ℤ)) (next : List ℤ) (a m : ℤ)
+    → (after ≡ 0 → IsZeroVector n h) → Exchange n u v h after g k next → SplitsStep u a h m k next
+step_splits n u v h after g _ _ a m z (keeps {zero = x} e f i) = record {
+  coefficients = a ∷ [];
+  multiple = pos 0;
+  count = refl;
+  entries = λ j. kept_part a m (entry u j) (entry h j) (entry x j) ((z e).zeros j) (i.zeros j);
+}
+step_splits n u v h after g _ _ a m z (takes e f) = record {
+  coefficients = [];
+  multiple = a;
+  count = refl;
+  entries = λ j. taken_part a m (entry u j) (entry h j) ((z e).zeros j);
+}
+step_splits n u v h after g _ _ a m z (turns e f) = record {
+  coefficients = [];
+  multiple = neg_ℤ a;
+  count = refl;
+  entries = λ j. turned_part a m (entry u j) (entry h j) (entry (scaled (negsuc 0) u) j) ((z e).zeros j) (entry-scaled (negsuc 0) u j);
+}
 step_splits n u v h after g _ _ a m z (exchanges {k = k} {next = x} p q s t e b i i') = record {
   coefficients = (a *ℤ t -ℤ m *ℤ pos s) ∷ [];
   multiple = a *ℤ q +ℤ m *ℤ pos p;
   count = refl;
   entries = λ j. exchanged_part a m (entry u j) (entry h j) (entry k j) (entry x j) (pos p) q (pos s) t
-      (unit_combination v (pos after) (pos g) (pos p) q (pos s) t (divisor_nonzero p g after e b.behind) (pos_product p g after b.behind) b.here b.combination)
+      (unit_combination v (pos after) (pos g) (pos p) q (pos s) t (divisor_nonzero p g after e b.behind) (pos_product p g after b.behind)
+      b.here b.combination)
       (i.entries j) (i'.entries j);
 }
 
@@ -57,7 +74,8 @@ pub record Splits (us : List (List ℤ)) (c : List ℤ) (ks : List (List ℤ)) (
   pub entries : (j : ℕ) → dot c (column j us) ≡ dot coefficients (column j ks) +ℤ multiple *ℤ entry h j
 
 -- a combination of two lists of vectors
-dot_append : (j : ℕ) (k ks : List (List ℤ)) (c d : List ℤ) → length c ≡ length k → dot (c ++ d) (column j (k ++ ks)) ≡ dot c (column j k) +ℤ dot d (column j ks)
+dot_append : (j : ℕ) (k ks : List (List ℤ)) (c d : List ℤ) → length c ≡ length k
+    → dot (c ++ d) (column j (k ++ ks)) ≡ dot c (column j k) +ℤ dot d (column j ks)
 dot_append j [] ks [] d e = omega (arith, linear)
 dot_append j [] ks (b ∷ c) d e = absurd (omega arith)
 dot_append j (x ∷ k) ks [] d e = absurd (omega arith)
@@ -66,28 +84,40 @@ dot_append j (x ∷ k) ks (b ∷ c) d e = let f = dot_append j k ks c d (omega a
 joined_entries : (a u r m h k x l : ℤ) (s t : ℤ) → r ≡ s +ℤ m *ℤ h → a *ℤ u +ℤ m *ℤ h ≡ k +ℤ l *ℤ x → t ≡ k +ℤ s → a *ℤ u +ℤ r ≡ t +ℤ l *ℤ x
 joined_entries a u r m h k x l s t e f g = omega (arith, linear)
 
-splits_joined : (u : List ℤ) (us : List (List ℤ)) (a : ℤ) (c : List ℤ) (ks : List (List ℤ)) (h : List ℤ) (k : List (List ℤ)) (next : List ℤ) → (b : Splits us c ks h) → SplitsStep u a h b.multiple k next → Splits (u ∷ us) (a ∷ c) (k ++ ks) next
+splits_joined : (u : List ℤ) (us : List (List ℤ)) (a : ℤ) (c : List ℤ) (ks : List (List ℤ)) (h : List ℤ) (k : List (List ℤ)) (next : List ℤ)
+    → (b : Splits us c ks h) → SplitsStep u a h b.multiple k next → Splits (u ∷ us) (a ∷ c) (k ++ ks) next
 splits_joined u us a c ks h k next b s = record {
   coefficients = s.coefficients ++ b.coefficients;
   multiple = s.multiple;
   count = length-append s.coefficients b.coefficients ∙ ap₂ (λ (x y : ℕ). x + y) s.count b.count ∙ sym (length-append k ks);
-  entries = λ j. joined_entries a (entry u j) (dot c (column j us)) b.multiple (entry h j) (dot s.coefficients (column j k)) (entry next j) s.multiple
-      (dot b.coefficients (column j ks)) (dot (s.coefficients ++ b.coefficients) (column j (k ++ ks))) (b.entries j) (s.entries j) (dot_append j k ks s.coefficients b.coefficients s.count);
+  entries = λ j. joined_entries a (entry u j) (dot c (column j us)) b.multiple (entry h j) (dot s.coefficients (column j k))
+      (entry next j) s.multiple
+      (dot b.coefficients (column j ks)) (dot (s.coefficients ++ b.coefficients) (column j (k ++ ks))) (b.entries j) (s.entries j)
+      (dot_append j k ks s.coefficients b.coefficients s.count);
 }
 
-pub recursion_splits : (n : ℕ) (system : Weighted) (us ks : List (List ℤ)) (h : List ℤ) (g : ℕ) (made : List (List ℤ)) (c : List ℤ) → length c ≡ length us → Exchanges n system us ks h g made → Splits us c ks h
-recursion_splits n system _ _ h _ _ [] e (none z) = record { coefficients = []; multiple = pos 0; count = refl; entries = λ j. nothing (entry h j) }
+pub recursion_splits : (n : ℕ) (system : Weighted) (us ks : List (List ℤ)) (h : List ℤ) (g : ℕ) (made : List (List ℤ)) (c : List ℤ)
+    → length c ≡ length us → Exchanges n system us ks h g made → Splits us c ks h
+recursion_splits n system _ _ h _ _ [] e (none z) = record {
+  coefficients = [];
+  multiple = pos 0;
+  count = refl;
+  entries = λ j. nothing (entry h j);
+}
   where
     nothing : (x : ℤ) → pos 0 ≡ pos 0 +ℤ pos 0 *ℤ x
     nothing x = simp products_out
 recursion_splits n system _ _ h _ _ (a ∷ c) e (none z) = absurd (omega arith)
 recursion_splits n system _ _ next g _ [] e (one_more i d x) = absurd (omega arith)
-recursion_splits n system _ _ next g _ (a ∷ c) e (one_more {u = u} {us = us} {ks = ks} {h = h} {after = after} {made = made} {k = k} i d x) =
+recursion_splits n system _ _ next g _ (a ∷ c) e (one_more {u = u} {us = us} {ks = ks} {h = h} {after = after} {made = made}
+    {k = k} i d x) =
     let b = recursion_splits n system us ks h after made c (omega arith) i in
-    splits_joined u us a c ks h k next b (step_splits n u (weighted_degree system u) h after g k next a b.multiple (λ z. recursion_zero n system us ks h after made z i) x)
+    splits_joined u us a c ks h k next b (step_splits n u (weighted_degree system u) h after g k next a b.multiple
+    (λ z. recursion_zero n system us ks h after made z i) x)
 
 -- combinations exist
-pub combination_exists : (n : ℕ) (c : List ℤ) (vectors : List (List ℤ)) → AreSized n vectors → (x : List ℤ) × IsIntegerCombination n c vectors x
+pub combination_exists : (n : ℕ) (c : List ℤ) (vectors : List (List ℤ)) → AreSized n vectors
+    → (x : List ℤ) × IsIntegerCombination n c vectors x
 combination_exists n [] vectors s = (zeros n, record { dimension = length-zeros n; entries = entry-zeros n })
 combination_exists n (a ∷ c) [] s = (zeros n, record { dimension = length-zeros n; entries = entry-zeros n })
 combination_exists n (a ∷ c) (b ∷ vectors) s =
@@ -99,12 +129,16 @@ combination_exists n (a ∷ c) (b ∷ vectors) s =
     one_term a b y z d e f = let e' = simp products_out at e in omega (arith, linear)
 
 -- and pair with a vector of weights as its values say
-pub combination_pairs : (n : ℕ) (w c : List ℤ) (vectors : List (List ℤ)) (x : List ℤ) → AreSized n vectors → IsIntegerCombination n c vectors x → dot w x ≡ dot c (map (dot w) vectors)
+pub combination_pairs : (n : ℕ) (w c : List ℤ) (vectors : List (List ℤ)) (x : List ℤ) → AreSized n vectors
+    → IsIntegerCombination n c vectors x → dot w x ≡ dot c (map (dot w) vectors)
 combination_pairs n w [] vectors x s e = zero_pairs n x w (record { dimension = e.dimension; zeros = e.entries })
 combination_pairs n w (a ∷ c) [] x s e = zero_pairs n x w (record { dimension = e.dimension; zeros = e.entries })
 combination_pairs n w (a ∷ c) (b ∷ vectors) x s e =
     let y = combination_exists n c vectors (each_tail s) in
-    let f = sum_pairs n a b (pos 1) y.0 x w (each_head s) y.1.dimension (record { dimension = e.dimension; entries = λ j. one_term a (entry b j) (entry y.0 j) _ _ (e.entries j) (y.1.entries j) }) in
+    let f = sum_pairs n a b (pos 1) y.0 x w (each_head s) y.1.dimension (record {
+      dimension = e.dimension;
+      entries = λ j. one_term a (entry b j) (entry y.0 j) _ _ (e.entries j) (y.1.entries j);
+    }) in
     let g = combination_pairs n w c vectors y.0 (each_tail s) y.1 in
     last_term a (dot w b) (dot w y.0) _ _ f g
   where

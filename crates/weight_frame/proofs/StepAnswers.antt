@@ -24,7 +24,8 @@ pub within_one : (k : List ℤ) → largest k ≤ MOST_FRAME_ENTRY → AreWithin
 within_one k h = all_from_each {P = λ x. largest x ≤ MOST_FRAME_ENTRY} (more h empty)
 
 -- the first vector kept is above the limit
-pub kept_above : (n : ℕ) (u : List ℤ) (v : ℤ) (h : List ℤ) (after g p : ℕ) (q : ℤ) (s : ℕ) (t : ℤ) (told : ℕ) → length u ≡ n → length h ≡ n → 0 < after → AreLeastMultipliers v after g p q s t
+pub kept_above : (n : ℕ) (u : List ℤ) (v : ℤ) (h : List ℤ) (after g p : ℕ) (q : ℤ) (s : ℕ) (t : ℤ) (told : ℕ) → length u ≡ n → length h ≡ n
+    → 0 < after → AreLeastMultipliers v after g p q s t
     → IsLargeSum n (pos p) u (neg_ℤ q) h told → IsStepAbove n u v h after told
 kept_above n u v h after g p q s t told l m positive are large = record {
   k = large.vector ∷ [];
@@ -32,11 +33,20 @@ kept_above n u v h after g p q s t told l m positive are large = record {
   g = g;
   step = exchanges p q s t positive are large.sum (sum_exists n (pos s) u t h l m);
   divisor = multipliers_divisor v after g p q s t are;
-  first = record { before = []; vector = large.vector; behind = combined (pos s) u t h ∷ []; split = refl; within = within_none; value = large.value; above = large.above };
+  first = record {
+    before = [];
+    vector = large.vector;
+    behind = combined (pos s) u t h ∷ [];
+    split = refl;
+    within = within_none;
+    value = large.value;
+    above = large.above;
+  };
 }
 
 -- the next h is above the limit
-pub last_above : (n : ℕ) (u : List ℤ) (v : ℤ) (h : List ℤ) (after g p : ℕ) (q : ℤ) (s : ℕ) (t : ℤ) (k : List ℤ) (told : ℕ) → 0 < after → AreLeastMultipliers v after g p q s t
+pub last_above : (n : ℕ) (u : List ℤ) (v : ℤ) (h : List ℤ) (after g p : ℕ) (q : ℤ) (s : ℕ) (t : ℤ) (k : List ℤ) (told : ℕ) → 0 < after
+    → AreLeastMultipliers v after g p q s t
     → IsSmallSum n (pos p) u (neg_ℤ q) h k → IsLargeSum n (pos s) u t h told → IsStepAbove n u v h after told
 last_above n u v h after g p q s t k told positive are small large = record {
   k = k ∷ [];
@@ -44,11 +54,20 @@ last_above n u v h after g p q s t k told positive are small large = record {
   g = g;
   step = exchanges p q s t positive are small.sum large.sum;
   divisor = multipliers_divisor v after g p q s t are;
-  first = record { before = k ∷ []; vector = large.vector; behind = []; split = refl; within = within_one k small.within; value = large.value; above = large.above };
+  first = record {
+    before = k ∷ [];
+    vector = large.vector;
+    behind = [];
+    split = refl;
+    within = within_one k small.within;
+    value = large.value;
+    above = large.above;
+  };
 }
 
 -- none is
-pub later_made : (n : ℕ) (u : List ℤ) (v : ℤ) (h : List ℤ) (after g p : ℕ) (q : ℤ) (s : ℕ) (t : ℤ) (k next : List ℤ) → 0 < after → after < 2 ^ 55 → AreLeastMultipliers v after g p q s t
+pub later_made : (n : ℕ) (u : List ℤ) (v : ℤ) (h : List ℤ) (after g p : ℕ) (q : ℤ) (s : ℕ) (t : ℤ) (k next : List ℤ) → 0 < after
+    → after < 2 ^ 55 → AreLeastMultipliers v after g p q s t
     → IsSmallSum n (pos p) u (neg_ℤ q) h k → IsSmallSum n (pos s) u t h next → IsStep n u v h after (k ∷ []) next g
 later_made n u v h after g p q s t k next positive small are x y = record {
   step = exchanges p q s t positive are x.sum y.sum;
@@ -62,7 +81,8 @@ later_made n u v h after g p q s t k next positive small are x y = record {
 first_divisor : (v : ℤ) (g : ℕ) → nat_abs v ≡ g → (values : List ℤ) → IsGreatestDivisor values 0 → IsGreatestDivisor (v ∷ values) g
 first_divisor v g e values d = subst (IsGreatestDivisor (v ∷ values)) e (greatest_more v values 0 (nat_abs v) d (alone v))
 
-pub first_keeps : (n : ℕ) (u : List ℤ) (v : ℤ) (h z k : List ℤ) → v ≡ pos 0 → k ≡ u → largest u ≤ MOST_FRAME_ENTRY → IsZeroVector n z → largest z ≤ MOST_FRAME_ENTRY → IsStep n u v h 0 (k ∷ []) z 0
+pub first_keeps : (n : ℕ) (u : List ℤ) (v : ℤ) (h z k : List ℤ) → v ≡ pos 0 → k ≡ u → largest u ≤ MOST_FRAME_ENTRY → IsZeroVector n z
+    → largest z ≤ MOST_FRAME_ENTRY → IsStep n u v h 0 (k ∷ []) z 0
 first_keeps n u v h z k e f within is_zero small = rw f (record {
   step = keeps refl e is_zero;
   divisor = first_divisor v 0 (rw e refl);
@@ -71,7 +91,8 @@ first_keeps n u v h z k e f within is_zero small = rw f (record {
   small = omega arith;
 })
 
-pub first_takes : (n : ℕ) (u : List ℤ) (v : ℤ) (h next : List ℤ) (g : ℕ) → pos 0 <ℤ v → next ≡ u → nat_abs v < 2 ^ 55 → g ≡ nat_abs v → largest u ≤ MOST_FRAME_ENTRY → IsStep n u v h 0 [] next g
+pub first_takes : (n : ℕ) (u : List ℤ) (v : ℤ) (h next : List ℤ) (g : ℕ) → pos 0 <ℤ v → next ≡ u → nat_abs v < 2 ^ 55 → g ≡ nat_abs v
+    → largest u ≤ MOST_FRAME_ENTRY → IsStep n u v h 0 [] next g
 first_takes n u v h next g p e small f within = rw (e, f) (record {
   step = takes refl p;
   divisor = first_divisor v (nat_abs v) refl;
@@ -80,7 +101,8 @@ first_takes n u v h next g p e small f within = rw (e, f) (record {
   small = small;
 })
 
-pub first_turns : (n : ℕ) (u : List ℤ) (v : ℤ) (h next : List ℤ) (g : ℕ) → v <ℤ pos 0 → next ≡ scaled (negsuc 0) u → nat_abs v < 2 ^ 55 → g ≡ nat_abs v → largest next ≤ MOST_FRAME_ENTRY → IsStep n u v h 0 [] next g
+pub first_turns : (n : ℕ) (u : List ℤ) (v : ℤ) (h next : List ℤ) (g : ℕ) → v <ℤ pos 0 → next ≡ scaled (negsuc 0) u → nat_abs v < 2 ^ 55
+    → g ≡ nat_abs v → largest next ≤ MOST_FRAME_ENTRY → IsStep n u v h 0 [] next g
 first_turns n u v h next g p e small f within = record {
   step = subst (λ (x : List ℤ). Exchange n u v h 0 g [] x) (sym e) (turns refl p);
   divisor = first_divisor v g (sym f);

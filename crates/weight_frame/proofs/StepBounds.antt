@@ -23,10 +23,12 @@ nonzero_size (pos zero) h = absurd (h refl)
 nonzero_size (pos (suc n)) h = omega arith
 nonzero_size (negsuc n) h = omega arith
 
-divisor_or_zeros : (values : List ℤ) (m g : ℕ) → Each (λ v. nat_abs v ≤ m) values → Each (DividesInteger g) values → (g ≤ m) ⊎ Each (λ v. v ≡ pos 0) values
+divisor_or_zeros : (values : List ℤ) (m g : ℕ) → Each (λ v. nat_abs v ≤ m) values → Each (DividesInteger g) values
+    → (g ≤ m) ⊎ Each (λ v. v ≡ pos 0) values
 divisor_or_zeros [] m g empty empty = inr empty
 divisor_or_zeros (v ∷ values) m g (more h b) (more d e) = ⊎_elim
-    (λ (z : v ≡ pos 0). ⊎_elim (λ (l : g ≤ m). inl l) (λ (a : Each (λ v. v ≡ pos 0) values). inr (more z a)) (divisor_or_zeros values m g b e))
+    (λ (z : v ≡ pos 0). ⊎_elim (λ (l : g ≤ m). inl l) (λ (a : Each (λ v. v ≡ pos 0) values). inr (more z a))
+    (divisor_or_zeros values m g b e))
     (λ (z : v ≢ pos 0). inl (let l : g ≤ nat_abs v = le_of_dvd (nonzero_size v z) (natural_divides g v d) in omega arith))
     (zero_or_not v)
 
@@ -44,12 +46,15 @@ divisor_size values m g h b d = ⊎_elim
     (divisor_or_zeros values m g b (each_from_all (DividesInteger g) values d.divides))
 
 -- the values of vectors within the limit
-values_size : (system : Weighted) (us : List (List ℤ)) → total system.weights ≤ 32_767 → Each (λ x. largest x ≤ MOST_FRAME_ENTRY) us → Each (λ v. nat_abs v ≤ MOST_FRAME_ENTRY * 32_767) (degrees_of system us)
+values_size : (system : Weighted) (us : List (List ℤ)) → total system.weights ≤ 32_767 → Each (λ x. largest x ≤ MOST_FRAME_ENTRY) us
+    → Each (λ v. nat_abs v ≤ MOST_FRAME_ENTRY * 32_767) (degrees_of system us)
 values_size system [] t empty = empty
-values_size system (u ∷ us) t (more h b) = more (let s = value_size system.weights u MOST_FRAME_ENTRY h in omega arith) (values_size system us t b)
+values_size system (u ∷ us) t (more h b) = more (let s = value_size system.weights u MOST_FRAME_ENTRY h in
+    omega arith) (values_size system us t b)
 
 -- two products and their sum
-sum_below : (a x b y : ℤ) (m n : ℕ) → nat_abs a ≤ m → nat_abs x ≤ n → nat_abs b ≤ m → nat_abs y ≤ n → m * n ≤ 2 ^ 110 → IsSumBelow (2 ^ 112) a x b y
+sum_below : (a x b y : ℤ) (m n : ℕ) → nat_abs a ≤ m → nat_abs x ≤ n → nat_abs b ≤ m → nat_abs y ≤ n → m * n ≤ 2 ^ 110
+    → IsSumBelow (2 ^ 112) a x b y
 sum_below a x b y m n h i k l f =
     let left = product_bound a x m n h i in
     let right = product_bound b y m n k l in
@@ -57,7 +62,8 @@ sum_below a x b y m n h i k l f =
     record { left = omega arith; right = omega arith; sum = omega arith }
 
 module _ (u : List ℤ) (v : ℤ) (h : List ℤ) (after g p : ℕ) (q : ℤ) (s : ℕ) (t : ℤ) where
-  step_below : 0 < after → nat_abs v < 2 ^ 55 → after < 2 ^ 55 → largest u ≤ MOST_FRAME_ENTRY → largest h ≤ MOST_FRAME_ENTRY → AreLeastMultipliers v after g p q s t → IsStepBelow (2 ^ 112) u v h after p q s t
+  step_below : 0 < after → nat_abs v < 2 ^ 55 → after < 2 ^ 55 → largest u ≤ MOST_FRAME_ENTRY → largest h ≤ MOST_FRAME_ENTRY
+      → AreLeastMultipliers v after g p q s t → IsStepBelow (2 ^ 112) u v h after p q s t
   step_below positive value behind first second are =
       let small = multipliers_small v after g p q s t positive are in
       let small_behind = small.behind in
@@ -69,13 +75,16 @@ module _ (u : List ℤ) (v : ℤ) (h : List ℤ) (after g p : ℕ) (q : ℤ) (s 
         behind = omega arith;
         divisor = sum_below (pos s) v t (pos after) (2 ^ 55) (2 ^ 55) (omega arith) (omega arith) (omega arith) (omega arith) (omega arith);
         kept = λ j. let here = entry_at_most u j in let there = entry_at_most h j in
-            sum_below (pos p) (entry u j) (neg_ℤ q) (entry h j) (2 ^ 55) MOST_FRAME_ENTRY (omega arith) (omega arith) (omega (arith, ints)) (omega arith) (omega arith);
+            sum_below (pos p) (entry u j) (neg_ℤ q) (entry h j) (2 ^ 55) MOST_FRAME_ENTRY (omega arith) (omega arith) (omega (arith, ints))
+            (omega arith) (omega arith);
         last = λ j. let here = entry_at_most u j in let there = entry_at_most h j in
-            sum_below (pos s) (entry u j) t (entry h j) (2 ^ 55) MOST_FRAME_ENTRY (omega arith) (omega arith) (omega arith) (omega arith) (omega arith);
+            sum_below (pos s) (entry u j) t (entry h j) (2 ^ 55) MOST_FRAME_ENTRY (omega arith) (omega arith) (omega arith) (omega arith)
+            (omega arith);
       }
 
 -- the sum of the weights is the degree, which is within the limit
-small_total : (systems : List Weighted) (system : Weighted) → AreWellFormed systems → AreWithinLimits systems → Contains systems system → total system.weights ≤ 32_767
+small_total : (systems : List Weighted) (system : Weighted) → AreWellFormed systems → AreWithinLimits systems → Contains systems system
+    → total system.weights ≤ 32_767
 small_total systems system formed limited (i, l, e) =
     let summed : IsSummed (columns_of systems) system = rw (sym e) (formed.summed i system l) in
     let degree : system.degree ≤ 32_767 = rw (sym e) (limited.degrees i system l) in
@@ -86,9 +95,11 @@ pub steps_are_bounded : StepsAreBounded
 steps_are_bounded systems system u h us after g p q s t formed limited member within positive divisor are =
     within_limit (each_from_all (λ x. largest x ≤ MOST_FRAME_ENTRY) (u ∷ h ∷ us) within)
   where
-    within_limit : Each (λ x. largest x ≤ MOST_FRAME_ENTRY) (u ∷ h ∷ us) → IsStepBelow (2 ^ 112) u (weighted_degree system u) h after p q s t
+    within_limit : Each (λ x. largest x ≤ MOST_FRAME_ENTRY) (u ∷ h ∷ us)
+        → IsStepBelow (2 ^ 112) u (weighted_degree system u) h after p q s t
     within_limit (more first (more second others)) =
         let small = small_total systems system formed limited member in
         let value = value_size system.weights u MOST_FRAME_ENTRY first in
-        let behind = divisor_size (degrees_of system us) (MOST_FRAME_ENTRY * 32_767) after positive (values_size system us small others) divisor in
+        let behind = divisor_size (degrees_of system us) (MOST_FRAME_ENTRY * 32_767) after positive (values_size system us small others)
+        divisor in
         step_below u (weighted_degree system u) h after g p q s t positive (omega arith) (omega arith) first second are

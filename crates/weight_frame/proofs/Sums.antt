@@ -5,7 +5,8 @@ use Rattle.lattice_theory.proofs.Vectors.{combined, zeros, length-combined, entr
 use Rattle.weight_frame.specs.Frame.{IsZeroVector, IsSumOfMultiples}
 
 -- p x + q y
-pub sum_exists : (n : ℕ) (p : ℤ) (x : List ℤ) (q : ℤ) (y : List ℤ) → length x ≡ n → length y ≡ n → IsSumOfMultiples n p x q y (combined p x q y)
+pub sum_exists : (n : ℕ) (p : ℤ) (x : List ℤ) (q : ℤ) (y : List ℤ) → length x ≡ n → length y ≡ n
+    → IsSumOfMultiples n p x q y (combined p x q y)
 sum_exists n p x q y h k = record { dimension = length-combined n p x q y h k; entries = entry-combined p x q y }
 
 -- there is one
@@ -13,8 +14,10 @@ pub sum_unique : (n : ℕ) (p : ℤ) (x : List ℤ) (q : ℤ) (y z w : List ℤ)
 sum_unique n p x q y z w h k = same_from_entries z w (h.dimension ∙ sym k.dimension) (λ j. h.entries j ∙ sym (k.entries j))
 
 -- its pairings
-pub sum_pairs : (n : ℕ) (p : ℤ) (x : List ℤ) (q : ℤ) (y z w : List ℤ) → length x ≡ n → length y ≡ n → IsSumOfMultiples n p x q y z → dot w z ≡ p *ℤ dot w x +ℤ q *ℤ dot w y
-sum_pairs n p x q y z w h k s = ap (dot w) (sum_unique n p x q y z (combined p x q y) s (sum_exists n p x q y h k)) ∙ dot-combined_right w p x q y
+pub sum_pairs : (n : ℕ) (p : ℤ) (x : List ℤ) (q : ℤ) (y z w : List ℤ) → length x ≡ n → length y ≡ n → IsSumOfMultiples n p x q y z
+    → dot w z ≡ p *ℤ dot w x +ℤ q *ℤ dot w y
+sum_pairs n p x q y z w h k s = ap (dot w) (sum_unique n p x q y z (combined p x q y) s (sum_exists n p x q y h k))
+    ∙ dot-combined_right w p x q y
 
 -- the zero vector
 pub zero_exists : (n : ℕ) → IsZeroVector n (zeros n)

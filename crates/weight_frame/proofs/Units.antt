@@ -22,7 +22,8 @@ units_behind n i u us f = λ j k e h. f (suc j) k (omega arith) (omega arith)
 first_unit : (n i : ℕ) (u : List ℤ) (us : List (List ℤ)) → AreUnitsFrom n i (u ∷ us) → IsUnitVector n i u
 first_unit n i u us f = f 0 i (omega arith) (omega arith)
 
-units_each : (P : List ℤ → Type 0) (n i : ℕ) (us : List (List ℤ)) → ((k : ℕ) (u : List ℤ) → IsUnitVector n k u → P u) → AreUnitsFrom n i us → Each P us
+units_each : (P : List ℤ → Type 0) (n i : ℕ) (us : List (List ℤ)) → ((k : ℕ) (u : List ℤ) → IsUnitVector n k u → P u) → AreUnitsFrom n i us
+    → Each P us
 units_each P n i [] f h = empty
 units_each P n i (u ∷ us) f h = more (f i u (first_unit n i u us h)) (units_each P n (suc i) us f (units_behind n i u us h))
 
@@ -33,7 +34,10 @@ units_lead : (n i : ℕ) (us : List (List ℤ)) → AreUnitsFrom n i us → Lead
 units_lead n i [] f = no_more
 units_lead n i (u ∷ us) f =
     let first = first_unit n i u us f in
-    leads i (omega arith) (record { before = λ j h. first.zeros j (λ (e : j ≡ i). absurd (omega arith)); positive = unit_positive (entry u i) first.one })
+    leads i (omega arith) (record {
+      before = λ j h. first.zeros j (λ (e : j ≡ i). absurd (omega arith));
+      positive = unit_positive (entry u i) first.one;
+    })
     (units_lead n (suc i) us (units_behind n i u us f))
 
 -- the combination with the entries of a vector
@@ -49,16 +53,21 @@ part_other a b r x e f = rw (e, f) (simp products_out (omega (arith, linear)))
 entry_before : (n i j : ℕ) (us : List (List ℤ)) (x : List ℤ) → j < i → AreUnitsFrom n i us → dot x (column j us) ≡ pos 0
 entry_before n i j us [] h f = refl
 entry_before n i j [] (a ∷ x) h f = refl
-entry_before n i j (u ∷ us) (a ∷ x) h f = part_zero a (entry u j) (dot x (column j us)) ((first_unit n i u us f).zeros j (λ (e : j ≡ i). absurd (omega arith))) (entry_before n (suc i) j us x (omega arith) (units_behind n i u us f))
+entry_before n i j (u ∷ us) (a ∷ x) h f =
+    part_zero a (entry u j) (dot x (column j us)) ((first_unit n i u us f).zeros j (λ (e : j ≡ i). absurd (omega arith)))
+    (entry_before n (suc i) j us x (omega arith) (units_behind n i u us f))
 
-entry_from : (n i j d : ℕ) (us : List (List ℤ)) (x : List ℤ) → length x ≡ length us → j ≡ i + d → AreUnitsFrom n i us → dot x (column j us) ≡ entry x d
+entry_from : (n i j d : ℕ) (us : List (List ℤ)) (x : List ℤ) → length x ≡ length us → j ≡ i + d → AreUnitsFrom n i us
+    → dot x (column j us) ≡ entry x d
 entry_from n i j d us [] e h f = refl
 entry_from n i j d [] (a ∷ x) e h f = absurd (omega arith)
 entry_from n i j zero (u ∷ us) (a ∷ x) e h f =
     let same : j ≡ i = omega arith in
-    part_one a (entry u j) (dot x (column j us)) (rw same (first_unit n i u us f).one) (entry_before n (suc i) j us x (omega arith) (units_behind n i u us f))
+    part_one a (entry u j) (dot x (column j us)) (rw same (first_unit n i u us f).one)
+    (entry_before n (suc i) j us x (omega arith) (units_behind n i u us f))
 entry_from n i j (suc d) (u ∷ us) (a ∷ x) e h f =
-    part_other a (entry u j) (dot x (column j us)) (entry x d) ((first_unit n i u us f).zeros j (λ (k : j ≡ i). absurd (omega arith))) (entry_from n (suc i) j d us x (omega arith) (omega arith) (units_behind n i u us f))
+    part_other a (entry u j) (dot x (column j us)) (entry x d) ((first_unit n i u us f).zeros j (λ (k : j ≡ i). absurd (omega arith)))
+    (entry_from n (suc i) j d us x (omega arith) (omega arith) (units_behind n i u us f))
 
 -- the list of all of them
 all_units : (n : ℕ) (us : List (List ℤ)) → AreUnitVectors n us → AreUnitsFrom n 0 us
@@ -93,7 +102,9 @@ units_same n i (u ∷ us) [] e f g = absurd (omega arith)
 units_same n i (u ∷ us) (v ∷ vs) e f g =
     let x = first_unit n i u us f in
     let y = first_unit n i v vs g in
-    ap₂ (λ (w : List ℤ) (ws : List (List ℤ)). w ∷ ws) (same_from_entries u v (x.dimension ∙ sym y.dimension) (λ j. same_entry n i j u v x y)) (units_same n (suc i) us vs (omega arith) (units_behind n i u us f) (units_behind n i v vs g))
+    ap₂ (λ (w : List ℤ) (ws : List (List ℤ)). w ∷ ws)
+    (same_from_entries u v (x.dimension ∙ sym y.dimension) (λ j. same_entry n i j u v x y))
+    (units_same n (suc i) us vs (omega arith) (units_behind n i u us f) (units_behind n i v vs g))
 
 pub unit_vectors_unique : (n : ℕ) (us vs : List (List ℤ)) → AreUnitVectors n us → AreUnitVectors n vs → us ≡ vs
 unit_vectors_unique n us vs h k = units_same n 0 us vs (h.count ∙ sym k.count) (all_units n us h) (all_units n vs k)
@@ -109,7 +120,11 @@ length-units_list n i zero = refl
 length-units_list n i (suc m) = ap suc (length-units_list n (suc i) m)
 
 is_unit : (n i : ℕ) → i < n → IsUnitVector n i (unit n i)
-is_unit n i h = record { dimension = length-unit n i; one = entry-unit_same n i h; zeros = λ j d. entry-unit_other n i j (λ (e : i ≡ j). d (sym e)) }
+is_unit n i h = record {
+  dimension = length-unit n i;
+  one = entry-unit_same n i h;
+  zeros = λ j d. entry-unit_other n i j (λ (e : i ≡ j). d (sym e));
+}
 
 units_at : (n i m j k : ℕ) → i + m ≤ n → k ≡ i + j → j < m → IsUnitVector n k (slice_index_or (units_list n i m) j [])
 unfolding units_list
@@ -118,4 +133,10 @@ units_at n i (suc m) zero k h e l = let same : k ≡ i = omega arith in rw same 
 units_at n i (suc m) (suc j) k h e l = units_at n (suc i) m j k (omega arith) (omega arith) (omega arith)
 
 pub unit_vectors_exist : (n : ℕ) → (us : List (List ℤ)) × AreUnitVectors n us
-unit_vectors_exist n = (units_list n 0 n, record { count = length-units_list n 0 n; units = λ i h. units_at n 0 n i i (omega arith) (omega arith) h })
+unit_vectors_exist n = (
+  units_list n 0 n,
+  record {
+    count = length-units_list n 0 n;
+    units = λ i h. units_at n 0 n i i (omega arith) (omega arith) h;
+  },
+)

@@ -12,7 +12,8 @@ pub record IsFirstPlace (x : List ℤ) (place : ℕ) : Type 0 where
 
 -- the number is the coordinate behind these, whatever the coordinates of x are
 abbrev pub IsNextCoordinate : List (List ℤ) → List ℤ → List ℤ → ℤ → Type 0
-IsNextCoordinate vectors x found a = (c : List ℤ) → AreCoordinates (length x) vectors x c → take (length found) c ≡ found → a ≡ entry c (length found)
+IsNextCoordinate vectors x found a = (c : List ℤ) → AreCoordinates (length x) vectors x c → take (length found) c ≡ found
+    → a ≡ entry c (length found)
 
 -- these are the coordinates of x, whatever they are, within the limit
 pub record AreFound (vectors : List (List ℤ)) (x found : List ℤ) : Type 0 where

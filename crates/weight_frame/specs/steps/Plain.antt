@@ -14,4 +14,5 @@ is_summed n degree weights = (length weights == n) && ((total weights == degree)
 
 -- whether there are 1 to 12 weights, all of them positive, whose sum is the degree
 abbrev pub is_plain : ℕ → List ℕ → Bool
-is_plain degree weights = are_positive weights && (is_summed (length weights) degree weights && (nat_lt 0 (length weights) && nat_lt (length weights) 13))
+is_plain degree weights = are_positive weights
+    && (is_summed (length weights) degree weights && (nat_lt 0 (length weights) && nat_lt (length weights) 13))

@@ -13,20 +13,28 @@ use Rattle.hull.proofs.differences.kernel_of.Goals.{After-dim, After-as_slice-in
 
 -- the first point's length
 first_dimension : (c : After-dim) → length c.index-points-0.result ≡ dimension_of c.args.points.now
-first_dimension c = first_length (dimension_of c.args.points.now) c.args.points.now c.index-points-0.result c.requires.points.are_points.one_dimension c.requires.points.are_points.some c.index-points-0.is
+first_dimension c = first_length (dimension_of c.args.points.now) c.args.points.now c.index-points-0.result
+    c.requires.points.are_points.one_dimension c.requires.points.are_points.some c.index-points-0.is
 
 pub point_difference-requires-clause-small_p : goal.point_difference-requires-clause-small_p
 point_difference-requires-clause-small_p c =
-    All-contains (λ p. absolute_sum p ≤ 2 ^ 30) (others_of c.args.points.now) c.p-item.result (others_all (λ p. absolute_sum p ≤ 2 ^ 30) c.args.points.now (points_bound (dimension_of c.args.points.now) c.args.points.now c.requires.points.are_points.one_dimension c.requires.points.within)) (c.loop-p.p-index, c.loop-p-test.true, sym c.p-item.is)
+    All-contains (λ p. absolute_sum p ≤ 2 ^ 30) (others_of c.args.points.now) c.p-item.result
+    (others_all (λ p. absolute_sum p ≤ 2 ^ 30) c.args.points.now
+    (points_bound (dimension_of c.args.points.now) c.args.points.now c.requires.points.are_points.one_dimension
+    c.requires.points.within)) (c.loop-p.p-index, c.loop-p-test.true, sym c.p-item.is)
 
 pub point_difference-requires-clause-small_q : goal.point_difference-requires-clause-small_q
 point_difference-requires-clause-small_q c =
-    All-contains (λ p. absolute_sum p ≤ 2 ^ 30) c.args.points.now c.index-points-0.result (points_bound (dimension_of c.args.points.now) c.args.points.now c.requires.points.are_points.one_dimension c.requires.points.within) (0, c.requires.points.are_points.some, sym c.index-points-0.is)
+    All-contains (λ p. absolute_sum p ≤ 2 ^ 30) c.args.points.now c.index-points-0.result
+    (points_bound (dimension_of c.args.points.now) c.args.points.now c.requires.points.are_points.one_dimension
+    c.requires.points.within) (0, c.requires.points.are_points.some, sym c.index-points-0.is)
 
 -- the length of this turn's point
 point_dimension : (c : After-as_slice-in-loop-p) → length c.p-item.result ≡ dimension_of c.args.points.now
 point_dimension c =
-    All-contains (λ p. length p ≡ dimension_of c.args.points.now) (others_of c.args.points.now) c.p-item.result (others_all (λ p. length p ≡ dimension_of c.args.points.now) c.args.points.now c.requires.points.are_points.one_dimension) (c.loop-p.p-index, c.loop-p-test.true, sym c.p-item.is)
+    All-contains (λ p. length p ≡ dimension_of c.args.points.now) (others_of c.args.points.now) c.p-item.result
+    (others_all (λ p. length p ≡ dimension_of c.args.points.now) c.args.points.now c.requires.points.are_points.one_dimension)
+    (c.loop-p.p-index, c.loop-p-test.true, sym c.p-item.is)
 
 -- its difference
 turn_difference : (c : After-as_slice-in-loop-p) → c.as_slice-in-loop-p.result.now ≡ difference c.p-item.result c.index-points-0.result
@@ -35,52 +43,83 @@ turn_difference c = c.as_slice-in-loop-p.ensures.value ∙ c.point_difference.en
 -- the difference's length
 turn_length : (c : After-as_slice-in-loop-p) → length c.as_slice-in-loop-p.result.now ≡ dimension_of c.args.points.now
 turn_length c =
-    let first = first_length (dimension_of c.args.points.now) c.args.points.now c.index-points-0.result c.requires.points.are_points.one_dimension c.requires.points.are_points.some c.index-points-0.is in
-    ap length (turn_difference c) ∙ length-difference c.p-item.result c.index-points-0.result (point_dimension c ∙ sym first) ∙ point_dimension c
+    let first = first_length (dimension_of c.args.points.now) c.args.points.now c.index-points-0.result
+    c.requires.points.are_points.one_dimension c.requires.points.are_points.some c.index-points-0.is in
+    ap length (turn_difference c) ∙ length-difference c.p-item.result c.index-points-0.result (point_dimension c ∙ sym first)
+    ∙ point_dimension c
 
 pub kernel_with-kernel-requires-clause-kernel : goal.kernel_with-kernel-requires-clause-kernel
 kernel_with-kernel-requires-clause-kernel c =
     let n = dimension_of c.args.points.now in
-    let first = first_length n c.args.points.now c.index-points-0.result c.requires.points.are_points.one_dimension c.requires.points.are_points.some c.index-points-0.is in
+    let first = first_length n c.args.points.now c.index-points-0.result c.requires.points.are_points.one_dimension
+    c.requires.points.are_points.some c.index-points-0.is in
     let small = points_small n c.args.points.now c.requires.points.are_points.one_dimension c.requires.points.within in
-    small_kernel n c.index-points-0.result (take c.loop-p.p-index (others_of c.args.points.now)) c.loop-p.kernel.items c.as_slice.result.now c.as_slice-in-loop-p.result.now first
-    (All-contains (λ p. absolute_sum p ≤ size_limit_of n) c.args.points.now c.index-points-0.result small (0, c.requires.points.are_points.some, sym c.index-points-0.is))
-    (All-take (λ p. length p ≡ n) c.loop-p.p-index (others_of c.args.points.now) (others_all (λ p. length p ≡ n) c.args.points.now c.requires.points.are_points.one_dimension))
-    (All-take (λ p. absolute_sum p ≤ size_limit_of n) c.loop-p.p-index (others_of c.args.points.now) (others_all (λ p. absolute_sum p ≤ size_limit_of n) c.args.points.now small))
-    (subst (λ m. IsPrimitiveKernel m (from c.index-points-0.result (take c.loop-p.p-index (others_of c.args.points.now))) c.loop-p.kernel.items) first c.loop-p.invariant.kernel) c.as_slice.ensures.value (turn_length c)
+    small_kernel n c.index-points-0.result (take c.loop-p.p-index (others_of c.args.points.now)) c.loop-p.kernel.items c.as_slice.result.now
+    c.as_slice-in-loop-p.result.now first
+    (All-contains (λ p. absolute_sum p ≤ size_limit_of n) c.args.points.now c.index-points-0.result small (
+      0,
+      c.requires.points.are_points.some,
+      sym c.index-points-0.is,
+    ))
+    (All-take (λ p. length p ≡ n) c.loop-p.p-index (others_of c.args.points.now)
+    (others_all (λ p. length p ≡ n) c.args.points.now c.requires.points.are_points.one_dimension))
+    (All-take (λ p. absolute_sum p ≤ size_limit_of n) c.loop-p.p-index (others_of c.args.points.now)
+    (others_all (λ p. absolute_sum p ≤ size_limit_of n) c.args.points.now small))
+    (subst (λ m. IsPrimitiveKernel m (from c.index-points-0.result (take c.loop-p.p-index (others_of c.args.points.now)))
+    c.loop-p.kernel.items) first c.loop-p.invariant.kernel) c.as_slice.ensures.value (turn_length c)
 
 pub kernel_with-kernel-requires-clause-some : goal.kernel_with-kernel-requires-clause-some
-kernel_with-kernel-requires-clause-some c = let l = turn_length c in let f = first_dimension ((goal.at.kernel_with-kernel-requires-clause-some c).After-dim) in omega arith
+kernel_with-kernel-requires-clause-some c = let l = turn_length c in
+    let f = first_dimension ((goal.at.kernel_with-kernel-requires-clause-some c).After-dim) in omega arith
 
 pub kernel_with-kernel-requires-clause-small : goal.kernel_with-kernel-requires-clause-small
 kernel_with-kernel-requires-clause-small c =
     let n = dimension_of c.args.points.now in
-    let first = first_length n c.args.points.now c.index-points-0.result c.requires.points.are_points.one_dimension c.requires.points.are_points.some c.index-points-0.is in
+    let first = first_length n c.args.points.now c.index-points-0.result c.requires.points.are_points.one_dimension
+    c.requires.points.are_points.some c.index-points-0.is in
     let small = points_small n c.args.points.now c.requires.points.are_points.one_dimension c.requires.points.within in
-    subst (λ m. absolute_sum c.as_slice-in-loop-p.result.now ≤ 2 * size_limit_of m) (sym (turn_length c)) (rw (turn_difference c) (absolute_sum-difference c.p-item.result c.index-points-0.result (size_limit_of n) (point_dimension c ∙ sym first)
-    (All-contains (λ p. absolute_sum p ≤ size_limit_of n) (others_of c.args.points.now) c.p-item.result (others_all (λ p. absolute_sum p ≤ size_limit_of n) c.args.points.now small) (c.loop-p.p-index, c.loop-p-test.true, sym c.p-item.is))
-    (All-contains (λ p. absolute_sum p ≤ size_limit_of n) c.args.points.now c.index-points-0.result small (0, c.requires.points.are_points.some, sym c.index-points-0.is))))
+    subst (λ m. absolute_sum c.as_slice-in-loop-p.result.now ≤ 2 * size_limit_of m) (sym (turn_length c))
+    (rw (turn_difference c) (absolute_sum-difference c.p-item.result c.index-points-0.result (size_limit_of n)
+    (point_dimension c ∙ sym first)
+    (All-contains (λ p. absolute_sum p ≤ size_limit_of n) (others_of c.args.points.now) c.p-item.result
+    (others_all (λ p. absolute_sum p ≤ size_limit_of n) c.args.points.now small) (
+      c.loop-p.p-index,
+      c.loop-p-test.true,
+      sym c.p-item.is,
+    ))
+    (All-contains (λ p. absolute_sum p ≤ size_limit_of n) c.args.points.now c.index-points-0.result small (
+      0,
+      c.requires.points.are_points.some,
+      sym c.index-points-0.is,
+    ))))
 
 pub loop-p-preserved : goal.loop-p-preserved
 loop-p-preserved c =
     let at = (goal.at.loop-p-preserved c).After-as_slice-in-loop-p in
-    let first = first_length (dimension_of c.args.points.now) c.args.points.now c.index-points-0.result c.requires.points.are_points.one_dimension c.requires.points.are_points.some c.index-points-0.is in
+    let first = first_length (dimension_of c.args.points.now) c.args.points.now c.index-points-0.result
+    c.requires.points.are_points.one_dimension c.requires.points.are_points.some c.index-points-0.is in
     let same = c.as_slice.ensures.value in
     let count = c.kernel_with-kernel.ensures.count in
     let length_same = ap length same in
     record {
-      kernel = next_kernel (length c.index-points-0.result) c.index-points-0.result (others_of c.args.points.now) c.loop-p.p-index c.p-item.result c.as_slice-in-loop-p.result.now c.loop-p.kernel.items c.as_slice.result.now c.kernel_with-kernel.result.items
-          c.loop-p-test.true c.p-item.is (turn_difference at) (turn_length at ∙ sym first) same c.kernel_with-kernel.ensures.kernel c.loop-p.invariant.kernel;
+      kernel = next_kernel (length c.index-points-0.result) c.index-points-0.result (others_of c.args.points.now) c.loop-p.p-index
+          c.p-item.result c.as_slice-in-loop-p.result.now c.loop-p.kernel.items c.as_slice.result.now c.kernel_with-kernel.result.items
+          c.loop-p-test.true c.p-item.is (turn_difference at) (turn_length at ∙ sym first) same
+          c.kernel_with-kernel.ensures.kernel c.loop-p.invariant.kernel;
       count = omega (arith, count);
     }
 
 -- the kernel after the loop
 whole : (c : After-loop-p) → IsPrimitiveKernel (dimension_of c.args.points.now) (differences c.args.points.now) c.loop-p.kernel.items
 whole c =
-    let first = first_length (dimension_of c.args.points.now) c.args.points.now c.index-points-0.result c.requires.points.are_points.one_dimension c.requires.points.are_points.some c.index-points-0.is in
-    let all : take c.loop-p.p-index (others_of c.args.points.now) ≡ others_of c.args.points.now = take_all c.loop-p.p-index (others_of c.args.points.now) c.loop-p-test.false in
+    let first = first_length (dimension_of c.args.points.now) c.args.points.now c.index-points-0.result
+    c.requires.points.are_points.one_dimension c.requires.points.are_points.some c.index-points-0.is in
+    let all : take c.loop-p.p-index (others_of c.args.points.now) ≡ others_of c.args.points.now =
+    take_all c.loop-p.p-index (others_of c.args.points.now) c.loop-p-test.false in
     subst (λ m. IsPrimitiveKernel m (differences c.args.points.now) c.loop-p.kernel.items) first
-    (subst (λ vs. IsPrimitiveKernel (length c.index-points-0.result) vs c.loop-p.kernel.items) (ap (from c.index-points-0.result) all ∙ differences_are c.args.points.now c.index-points-0.result c.requires.points.are_points.some c.index-points-0.is) c.loop-p.invariant.kernel)
+    (subst (λ vs. IsPrimitiveKernel (length c.index-points-0.result) vs c.loop-p.kernel.items) (ap (from c.index-points-0.result) all
+    ∙ differences_are c.args.points.now c.index-points-0.result c.requires.points.are_points.some c.index-points-0.is)
+    c.loop-p.invariant.kernel)
 
 pub returns-clause-kernel : goal.returns-clause-kernel
 returns-clause-kernel c = whole c
@@ -88,19 +127,31 @@ returns-clause-kernel c = whole c
 pub returns-clause-entries : goal.returns-clause-entries
 returns-clause-entries c =
     let n = dimension_of c.args.points.now in
-    let first = first_length n c.args.points.now c.index-points-0.result c.requires.points.are_points.one_dimension c.requires.points.are_points.some c.index-points-0.is in
+    let first = first_length n c.args.points.now c.index-points-0.result c.requires.points.are_points.one_dimension
+    c.requires.points.are_points.some c.index-points-0.is in
     let small = points_small n c.args.points.now c.requires.points.are_points.one_dimension c.requires.points.within in
-    let all : take c.loop-p.p-index (others_of c.args.points.now) ≡ others_of c.args.points.now = take_all c.loop-p.p-index (others_of c.args.points.now) c.loop-p-test.false in
+    let all : take c.loop-p.p-index (others_of c.args.points.now) ≡ others_of c.args.points.now =
+    take_all c.loop-p.p-index (others_of c.args.points.now) c.loop-p-test.false in
     members_entries n c.loop-p.kernel.items (omega arith) (omega arith)
-    (subst (λ m. IsSmallKernel m c.loop-p.kernel.items) first (small_kernel n c.index-points-0.result (take c.loop-p.p-index (others_of c.args.points.now)) c.loop-p.kernel.items c.loop-p.kernel.items c.index-points-0.result first
-    (All-contains (λ p. absolute_sum p ≤ size_limit_of n) c.args.points.now c.index-points-0.result small (0, c.requires.points.are_points.some, sym c.index-points-0.is))
-    (All-take (λ p. length p ≡ n) c.loop-p.p-index (others_of c.args.points.now) (others_all (λ p. length p ≡ n) c.args.points.now c.requires.points.are_points.one_dimension))
-    (All-take (λ p. absolute_sum p ≤ size_limit_of n) c.loop-p.p-index (others_of c.args.points.now) (others_all (λ p. absolute_sum p ≤ size_limit_of n) c.args.points.now small))
-    (subst (λ m. IsPrimitiveKernel m (from c.index-points-0.result (take c.loop-p.p-index (others_of c.args.points.now))) c.loop-p.kernel.items) first c.loop-p.invariant.kernel) (λ i. c.loop-p.kernel.items) first))
+    (subst (λ m. IsSmallKernel m c.loop-p.kernel.items) first
+    (small_kernel n c.index-points-0.result (take c.loop-p.p-index (others_of c.args.points.now)) c.loop-p.kernel.items
+    c.loop-p.kernel.items c.index-points-0.result first
+    (All-contains (λ p. absolute_sum p ≤ size_limit_of n) c.args.points.now c.index-points-0.result small (
+      0,
+      c.requires.points.are_points.some,
+      sym c.index-points-0.is,
+    ))
+    (All-take (λ p. length p ≡ n) c.loop-p.p-index (others_of c.args.points.now)
+    (others_all (λ p. length p ≡ n) c.args.points.now c.requires.points.are_points.one_dimension))
+    (All-take (λ p. absolute_sum p ≤ size_limit_of n) c.loop-p.p-index (others_of c.args.points.now)
+    (others_all (λ p. absolute_sum p ≤ size_limit_of n) c.args.points.now small))
+    (subst (λ m. IsPrimitiveKernel m (from c.index-points-0.result (take c.loop-p.p-index (others_of c.args.points.now)))
+    c.loop-p.kernel.items) first c.loop-p.invariant.kernel) (λ i. c.loop-p.kernel.items) first))
 
 pub returns-clause-count : goal.returns-clause-count
 returns-clause-count c =
-    let first = first_length (dimension_of c.args.points.now) c.args.points.now c.index-points-0.result c.requires.points.are_points.one_dimension c.requires.points.are_points.some c.index-points-0.is in
+    let first = first_length (dimension_of c.args.points.now) c.args.points.now c.index-points-0.result
+    c.requires.points.are_points.one_dimension c.requires.points.are_points.some c.index-points-0.is in
     let others = others_length c.args.points.now c.requires.points.are_points.some in
     let count = c.loop-p.invariant.count in
     let end = c.loop-p.auto in

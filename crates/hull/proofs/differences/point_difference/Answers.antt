@@ -27,8 +27,10 @@ loop-i-preserved c =
     let items = simp to_z-of_z at c.push.ensures.items in
     record {
       length = omega arith;
-      items = difference_more c.args.p.now c.args.q.now c.loop-i.entries.items c.push.new.self.items c.loop-i.i _ c.requires.same (omega arith) c.loop-i.invariant.items (ap₂ (λ a b. a -ℤ b) c.entry.ensures c.entry-in-loop-i.ensures) items;
+      items = difference_more c.args.p.now c.args.q.now c.loop-i.entries.items c.push.new.self.items c.loop-i.i _ c.requires.same
+          (omega arith) c.loop-i.invariant.items (ap₂ (λ a b. a -ℤ b) c.entry.ensures c.entry-in-loop-i.ensures) items;
     }
 
 pub returns : goal.returns
-returns c = difference_all c.args.p.now c.args.q.now c.loop-i.entries.items c.loop-i.i c.requires.same (omega arith) c.loop-i.invariant.items
+returns c = difference_all c.args.p.now c.args.q.now c.loop-i.entries.items c.loop-i.i c.requires.same
+    (omega arith) c.loop-i.invariant.items

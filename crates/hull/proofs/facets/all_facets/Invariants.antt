@@ -5,4 +5,5 @@ use Rattle.hull.proofs.FirstPoints.{IsMet}
 use Rattle.hull.proofs.facets.all_facets.Given as goal
 
 abbrev pub invariant-loop-i : goal.invariant-loop-i
-invariant-loop-i l = AddsFacets (dimension_of l.points) l.points (IsMet (dimension_of l.points) l.points (take l.i l.points)) [] l.facets.items
+invariant-loop-i l = AddsFacets (dimension_of l.points) l.points (IsMet (dimension_of l.points) l.points (take l.i l.points))
+    [] l.facets.items

@@ -15,7 +15,8 @@ loop-i-preserved c =
     let value = simp to_z-of_z at c.scaled_difference.ensures.value in
     let items = simp to_z-of_z at c.push.ensures.items in
     let before = simp to_z-of_z at c.loop-i.invariant in
-    simp to_z-of_z (apart_more c.args.a c.args.x.now c.args.b c.args.y.now c.loop-i.entries.items c.push.new.self.items c.loop-i.i c.scaled_difference.result before items value c.scaled_difference.ensures.small)
+    simp to_z-of_z (apart_more c.args.a c.args.x.now c.args.b c.args.y.now c.loop-i.entries.items c.push.new.self.items c.loop-i.i
+    c.scaled_difference.result before items value c.scaled_difference.ensures.small)
 
 pub returns : goal.returns
 returns c =

@@ -20,13 +20,16 @@ first_small c = c.requires.entries c.loop-i.i (pos 0) (omega arith)
 pub overflow_add-sum : goal.overflow_add-sum
 overflow_add-sum c =
     let product_fits : SFits w128 c.product-sum.result = search rules in
-    simp to_z-of_z (sum_fits c.args.v.now c.loop-i.i _ _ _ (omega arith) (omega arith) (first_small c) (product_is c) c.loop-i.invariant.bound)
+    simp to_z-of_z (sum_fits c.args.v.now c.loop-i.i _ _ _ (omega arith) (omega arith) (first_small c)
+    (product_is c) c.loop-i.invariant.bound)
 
 pub loop-i-preserved : goal.loop-i-preserved
 loop-i-preserved c =
     let product_fits : SFits w128 c.product-sum.result = search rules in
     let total_fits = simp to_z-of_z at (overflow_add-sum c) in
     record {
-      sum = simp to_z-of_z (sum_more c.args.k.now c.args.v.now c.loop-i.i _ _ _ (omega arith) (omega arith) (product_is c) refl c.loop-i.invariant.sum);
-      bound = simp to_z-of_z (bound_more c.args.v.now c.loop-i.i _ _ _ _ _ (omega arith) (first_small c) (product_is c) refl c.loop-i.invariant.bound);
+      sum = simp to_z-of_z (sum_more c.args.k.now c.args.v.now c.loop-i.i _ _ _ (omega arith) (omega arith)
+          (product_is c) refl c.loop-i.invariant.sum);
+      bound = simp to_z-of_z (bound_more c.args.v.now c.loop-i.i _ _ _ _ _ (omega arith) (first_small c)
+          (product_is c) refl c.loop-i.invariant.bound);
     }

@@ -23,7 +23,8 @@ returns-clause-value c =
     let y : SFits w128 c.args.y = search rules in
     let left : SFits w128 (c.args.a *ℤ c.args.x) = small_fits _ c.requires.left in
     let right : SFits w128 (c.args.b *ℤ c.args.y) = small_fits _ c.requires.right in
-    let whole : SFits w128 (c.args.a *ℤ c.args.x -ℤ c.args.b *ℤ c.args.y) = difference_fits (c.args.a *ℤ c.args.x) (c.args.b *ℤ c.args.y) c.requires.left c.requires.right in
+    let whole : SFits w128 (c.args.a *ℤ c.args.x -ℤ c.args.b *ℤ c.args.y) =
+    difference_fits (c.args.a *ℤ c.args.x) (c.args.b *ℤ c.args.y) c.requires.left c.requires.right in
     simp to_z-of_z
 
 pub returns-clause-small : goal.returns-clause-small
@@ -34,5 +35,6 @@ returns-clause-small c =
     let y : SFits w128 c.args.y = search rules in
     let left : SFits w128 (c.args.a *ℤ c.args.x) = small_fits _ c.requires.left in
     let right : SFits w128 (c.args.b *ℤ c.args.y) = small_fits _ c.requires.right in
-    let whole : SFits w128 (c.args.a *ℤ c.args.x -ℤ c.args.b *ℤ c.args.y) = difference_fits (c.args.a *ℤ c.args.x) (c.args.b *ℤ c.args.y) c.requires.left c.requires.right in
+    let whole : SFits w128 (c.args.a *ℤ c.args.x -ℤ c.args.b *ℤ c.args.y) =
+    difference_fits (c.args.a *ℤ c.args.x) (c.args.b *ℤ c.args.y) c.requires.left c.requires.right in
     simp to_z-of_z (difference_small (c.args.a *ℤ c.args.x) (c.args.b *ℤ c.args.y) c.requires.left c.requires.right)

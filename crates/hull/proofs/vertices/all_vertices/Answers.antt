@@ -14,14 +14,20 @@ is_point : (c : After-v-item) → Contains c.args.points.now c.v-item.result
 is_point c = (c.loop-v.v-index, c.loop-v-test.true, sym c.v-item.is)
 
 pub is_vertex-requires-clause-small : goal.is_vertex-requires-clause-small
-is_vertex-requires-clause-small c = points_bound (dimension_of c.args.points.now) c.args.points.now c.requires.points.sized.are_points.one_dimension c.requires.points.sized.within
+is_vertex-requires-clause-small c =
+    points_bound (dimension_of c.args.points.now) c.args.points.now c.requires.points.sized.are_points.one_dimension
+    c.requires.points.sized.within
 
 pub is_vertex-requires-clause-constants : goal.is_vertex-requires-clause-constants
-is_vertex-requires-clause-constants c = facets_constants (dimension_of c.args.points.now) c.args.points.now c.args.facets.now c.requires.points.sized.are_points.one_dimension c.requires.points.solid c.requires.points.sized.within c.requires.facets
+is_vertex-requires-clause-constants c =
+    facets_constants (dimension_of c.args.points.now) c.args.points.now c.args.facets.now c.requires.points.sized.are_points.one_dimension
+    c.requires.points.solid c.requires.points.sized.within c.requires.facets
 
 pub is_vertex-requires-clause-small_v : goal.is_vertex-requires-clause-small_v
 is_vertex-requires-clause-small_v c =
-    All-contains (λ p. absolute_sum p ≤ 2 ^ 30) c.args.points.now c.v-item.result (points_bound (dimension_of c.args.points.now) c.args.points.now c.requires.points.sized.are_points.one_dimension c.requires.points.sized.within) (is_point c)
+    All-contains (λ p. absolute_sum p ≤ 2 ^ 30) c.args.points.now c.v-item.result
+    (points_bound (dimension_of c.args.points.now) c.args.points.now c.requires.points.sized.are_points.one_dimension
+    c.requires.points.sized.within) (is_point c)
 
 pub loop-v-preserved : goal.loop-v-preserved
 loop-v-preserved c =
@@ -29,20 +35,30 @@ loop-v-preserved c =
     let n = dimension_of points in
     let i = c.loop-v.v-index in
     let v = c.v-item.result in
-    let decides = vertex_alone n points c.args.facets.now v c.requires.points.sized.are_points.one_dimension c.requires.points.solid c.requires.facets (i, c.loop-v-test.true, sym c.v-item.is) in
+    let decides = vertex_alone n points c.args.facets.now v c.requires.points.sized.are_points.one_dimension c.requires.points.solid
+    c.requires.facets (i, c.loop-v-test.true, sym c.v-item.is) in
     elim c.if-is_vertex.branch [
-      | then-is_vertex+in_ok-push w ↦ turn_added n points c.loop-v.vertices.items c.if-is_vertex.vertices.items i v w.copied.result c.loop-v-test.true c.v-item.is (decides.0 (c.is_vertex.ensures.0 w.if-is_vertex.true)) w.copied.ensures (ap (λ vs. vs.items) w.vertices-is ∙ w.in_ok-push.ensures.items) c.loop-v.invariant
-      | else-is_vertex w ↦ turn_kept n points c.loop-v.vertices.items c.if-is_vertex.vertices.items i v c.loop-v-test.true c.v-item.is (λ x. true≢false (sym (c.is_vertex.ensures.1 (decides.1 x)) ∙ w.if-is_vertex.false)) (ap (λ vs. vs.items) w.vertices-is) c.loop-v.invariant
+      | then-is_vertex+in_ok-push w ↦ turn_added n points c.loop-v.vertices.items c.if-is_vertex.vertices.items i v w.copied.result
+          c.loop-v-test.true c.v-item.is (decides.0 (c.is_vertex.ensures.0 w.if-is_vertex.true)) w.copied.ensures
+          (ap (λ vs. vs.items) w.vertices-is ∙ w.in_ok-push.ensures.items) c.loop-v.invariant
+      | else-is_vertex w ↦ turn_kept n points c.loop-v.vertices.items c.if-is_vertex.vertices.items i v c.loop-v-test.true c.v-item.is
+          (λ x. true≢false (sym (c.is_vertex.ensures.1 (decides.1 x)) ∙ w.if-is_vertex.false)) (ap (λ vs. vs.items) w.vertices-is)
+          c.loop-v.invariant
     ]
 
 pub ascending_points-requires : goal.ascending_points-requires
 ascending_points-requires c =
     let n = dimension_of c.args.points.now in
-    let found : List (List ℤ) → Type 0 = λ xs. HasVertices n c.args.points.now xs c.loop-v.vertices.items in
-    (n, vertices_dimension n c.args.points.now c.loop-v.vertices.items c.requires.points.sized.are_points.one_dimension (subst found (take_all _ _ c.loop-v-test.false) c.loop-v.invariant))
+    let found : List (List ℤ) → Type 0 = λ xs. HasVertices n c.args.points.now xs c.loop-v.vertices.items in (
+      n,
+      vertices_dimension n c.args.points.now c.loop-v.vertices.items c.requires.points.sized.are_points.one_dimension
+          (subst found (take_all _ _ c.loop-v-test.false) c.loop-v.invariant),
+    )
 
 pub returns : goal.returns
 returns c =
     let n = dimension_of c.args.points.now in
     let found : List (List ℤ) → Type 0 = λ xs. HasVertices n c.args.points.now xs c.loop-v.vertices.items in
-    vertices_listed n c.args.points.now c.loop-v.vertices.items c.ascending_points.new.points.items (subst found (take_all _ _ c.loop-v-test.false) c.loop-v.invariant) c.ascending_points.ensures.ascends c.ascending_points.ensures.members
+    vertices_listed n c.args.points.now c.loop-v.vertices.items c.ascending_points.new.points.items
+    (subst found (take_all _ _ c.loop-v-test.false) c.loop-v.invariant) c.ascending_points.ensures.ascends
+    c.ascending_points.ensures.members

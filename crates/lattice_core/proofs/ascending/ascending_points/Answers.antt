@@ -10,7 +10,10 @@ use Rattle.lattice_core.proofs.ascending.ascending_points.Goals as goal
 
 pub returns : goal.returns
 returns c =
-    let out = sorted_out LexLess (λ p. length p ≡ c.requires.0) (slice_cmp int_cmp) (pointwise int_eq) (λ x y p q. compares_lex x y (p ∙ sym q)) (lists_total int_cmp_total) (lists_ties int_cmp (λ x y. refl)) (lists_equiv int_eq_equiv) (λ x y. (pointwise_decides signed_Decides x y).0) _ _ _ c.requires.1 c.sort_unstable.ensures.permutation c.sort_unstable.ensures.sorted c.dedup.ensures.filtered in
+    let out = sorted_out LexLess (λ p. length p ≡ c.requires.0) (slice_cmp int_cmp) (pointwise int_eq)
+    (λ x y p q. compares_lex x y (p ∙ sym q)) (lists_total int_cmp_total) (lists_ties int_cmp (λ x y. refl)) (lists_equiv int_eq_equiv)
+    (λ x y. (pointwise_decides signed_Decides x y).0) _ _ _ c.requires.1 c.sort_unstable.ensures.permutation
+    c.sort_unstable.ensures.sorted c.dedup.ensures.filtered in
     record {
       ascends = out.ascends;
       members = out.members;

@@ -11,11 +11,13 @@ use Rattle.lattice_core.proofs.Widths.{small_fits}
 pub pair-pairing-requires-clause-small : goal.pair-pairing-requires-clause-small
 pair-pairing-requires-clause-small c =
     let most = subst (λ xs. length xs ≤ 6) c.entries.ensures.value c.entries.ensures.most in
-    inr (rw c.normal.ensures.value (normal_absolute_sum (length c.args.p.now) c.args.f.now.normal most c.requires.dimension c.requires.entries))
+    inr (rw c.normal.ensures.value
+    (normal_absolute_sum (length c.args.p.now) c.args.f.now.normal most c.requires.dimension c.requires.entries))
 
 -- the sum of the two parts is the value
 total_is : (c : After-constant) → c.pair-pairing.result +ℤ c.constant.result ≡ value c.args.f.now c.args.p.now
-total_is c = value_is c.args.f.now c.args.p.now _ _ _ _ c.entries.ensures.value c.normal.ensures.value c.pair-pairing.ensures.value c.constant.ensures
+total_is c = value_is c.args.f.now c.args.p.now _ _ _ _ c.entries.ensures.value c.normal.ensures.value c.pair-pairing.ensures.value
+    c.constant.ensures
 
 -- and small
 total_small : (c : After-constant) → nat_abs (c.pair-pairing.result +ℤ c.constant.result) < 2 ^ 76
@@ -44,7 +46,8 @@ pub returns : goal.returns
 returns c =
     let first : SFits w128 c.pair-pairing.result = search rules in
     let second : SFits w128 c.constant.result = search rules in
-    let total = value_is c.args.f.now c.args.p.now _ _ _ _ c.entries.ensures.value c.normal.ensures.value c.pair-pairing.ensures.value c.constant.ensures in
+    let total = value_is c.args.f.now c.args.p.now _ _ _ _ c.entries.ensures.value c.normal.ensures.value c.pair-pairing.ensures.value
+    c.constant.ensures in
     let small = subst (λ (a : ℤ). nat_abs a < 2 ^ 76) (sym total) (value_small c.args.p.now c.args.f.now c.requires) in
     let sum : SFits w128 (c.pair-pairing.result +ℤ c.constant.result) = small_fits _ (omega arith) in
     let answer : SFits w128 c.abs.result = search rules in

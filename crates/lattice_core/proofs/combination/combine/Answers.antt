@@ -17,4 +17,5 @@ pub returns : goal.returns
 returns c =
     let h = c.requires.fixed in
     let same = c.deref.ensures.0 ∙ c.combined_normal.ensures.normal h.function h.combination in
-    answer_is c.args.f.now c.args.g.now h.function c.through.result c.args.p.now _ h.combination same c.through.ensures.normal (rw c.entries.ensures.value at c.through.ensures.constant)
+    answer_is c.args.f.now c.args.g.now h.function c.through.result c.args.p.now _ h.combination same c.through.ensures.normal
+    (rw c.entries.ensures.value at c.through.ensures.constant)

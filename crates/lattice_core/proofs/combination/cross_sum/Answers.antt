@@ -15,7 +15,8 @@ sum_of_multiples-requires c =
     let first = products_small p f g _ some c.requires.left c.requires.right c.absolute_value-left.ensures in
     let second = products_small p g f _ some c.requires.right c.requires.left c.absolute_value-right.ensures in
     record {
-      same_length = ap length c.normal.ensures.value ∙ c.requires.left.dimension ∙ sym c.requires.right.dimension ∙ sym (ap length c.normal-2.ensures.value);
+      same_length = ap length c.normal.ensures.value ∙ c.requires.left.dimension ∙ sym c.requires.right.dimension
+          ∙ sym (ap length c.normal-2.ensures.value);
       most = c.normal.ensures.most;
       first = simp to_z-of_z (rw c.normal.ensures.value first);
       second = simp to_z-of_z (rw c.normal-2.ensures.value second);

@@ -34,9 +34,9 @@ overflow_add-sum c =
     let product_fits : SFits w128 c.product-sum.result = search rules in
     simp to_z-of_z (⊎_elim
     (λ (small : absolute_sum c.args.a.now ≤ 2 ^ 60).
-        sum_fits c.args.a.now c.loop-i.i _ _ _ (omega arith) small (second_small c) (turned_is c) c.loop-i.invariant.left)
+    sum_fits c.args.a.now c.loop-i.i _ _ _ (omega arith) small (second_small c) (turned_is c) c.loop-i.invariant.left)
     (λ (small : absolute_sum c.args.b.now ≤ 2 ^ 60).
-        sum_fits c.args.b.now c.loop-i.i _ _ _ (omega arith) small (first_small c) (product_is c) c.loop-i.invariant.right)
+    sum_fits c.args.b.now c.loop-i.i _ _ _ (omega arith) small (first_small c) (product_is c) c.loop-i.invariant.right)
     c.requires.small)
 
 pub loop-i-preserved : goal.loop-i-preserved
@@ -44,9 +44,12 @@ loop-i-preserved c =
     let product_fits : SFits w128 c.product-sum.result = search rules in
     let total_fits = simp to_z-of_z at (overflow_add-sum c) in
     record {
-      sum = simp to_z-of_z (sum_more c.args.a.now c.args.b.now c.loop-i.i _ _ _ (omega arith) (omega arith) (product_is c) refl c.loop-i.invariant.sum);
-      left = simp to_z-of_z (bound_more c.args.a.now c.loop-i.i _ _ _ _ _ (omega arith) (second_small c) (turned_is c) refl c.loop-i.invariant.left);
-      right = simp to_z-of_z (bound_more c.args.b.now c.loop-i.i _ _ _ _ _ (omega arith) (first_small c) (product_is c) refl c.loop-i.invariant.right);
+      sum = simp to_z-of_z (sum_more c.args.a.now c.args.b.now c.loop-i.i _ _ _ (omega arith) (omega arith)
+          (product_is c) refl c.loop-i.invariant.sum);
+      left = simp to_z-of_z (bound_more c.args.a.now c.loop-i.i _ _ _ _ _ (omega arith) (second_small c)
+          (turned_is c) refl c.loop-i.invariant.left);
+      right = simp to_z-of_z (bound_more c.args.b.now c.loop-i.i _ _ _ _ _ (omega arith) (first_small c)
+          (product_is c) refl c.loop-i.invariant.right);
     }
 
 pub returns : goal.returns

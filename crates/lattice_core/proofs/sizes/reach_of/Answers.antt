@@ -7,9 +7,11 @@ pub loop-p-preserved : goal.loop-p-preserved
 loop-p-preserved c =
     let fits : SFits w64 c.entry.result = search rules in
     let abs : c.unsigned_abs.result ≡ nat_abs c.entry.result = simp to_z-of_z at c.unsigned_abs.ensures.value in
-    let next : c.max-largest.result ≡ max c.loop-p.largest c.unsigned_abs.result = c.max-largest.ensures ∙ larger c.loop-p.largest c.unsigned_abs.result in
+    let next : c.max-largest.result ≡ max c.loop-p.largest c.unsigned_abs.result =
+    c.max-largest.ensures ∙ larger c.loop-p.largest c.unsigned_abs.result in
     record {
-      value = reach_more c.args.points.now c.args.i c.loop-p.p-index _ _ c.p-item.result c.loop-p-test.true c.p-item.is (next ∙ ap (λ n. max c.loop-p.largest n) (abs ∙ ap nat_abs c.entry.ensures)) c.loop-p.invariant.value;
+      value = reach_more c.args.points.now c.args.i c.loop-p.p-index _ _ c.p-item.result c.loop-p-test.true c.p-item.is
+          (next ∙ ap (λ n. max c.loop-p.largest n) (abs ∙ ap nat_abs c.entry.ensures)) c.loop-p.invariant.value;
       bound = omega arith;
     }
 

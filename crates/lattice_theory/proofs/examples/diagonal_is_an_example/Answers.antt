@@ -38,5 +38,6 @@ returns c =
       place = 1;
       ends = ends;
       positive = omega (arith, ints);
-      earliest = λ g k e v. by_two (λ x. (c : ℤ) → Vanishes diagonal (function x c) → (k : ℕ) → EndsAt x k → 1 ≤ k) later g.normal e g.constant v k;
+      earliest = λ g k e v. by_two (λ x. (c : ℤ) → Vanishes diagonal (function x c) → (k : ℕ) → EndsAt x k
+          → 1 ≤ k) later g.normal e g.constant v k;
     }

@@ -11,4 +11,5 @@ returns c =
     let first = v (in_space minus1 (pos 0) (pos 0)) (0, omega arith, refl) refl in
     let second = v (in_space (pos 0) minus1 (pos 0)) (1, omega arith, refl) refl in
     let third = v (in_space (pos 0) (pos 0) minus1) (2, omega arith, refl) refl in
-    space_multiple (pos 1) a a b c d (pos 1) (pos 1) (pos 1) (pos 1) one_nonzero (omega (arith, ints)) (omega (arith, ints)) (omega (arith, ints)) (omega (arith, ints)))
+    space_multiple (pos 1) a a b c d (pos 1) (pos 1) (pos 1) (pos 1) one_nonzero (omega (arith, ints)) (omega (arith, ints))
+    (omega (arith, ints)) (omega (arith, ints)))

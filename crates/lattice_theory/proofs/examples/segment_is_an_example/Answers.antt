@@ -7,7 +7,8 @@ use Rattle.lattice_theory.proofs.SegmentFacets.{lower_facet, upper_facet}
 use Rattle.lattice_theory.proofs.examples.segment_is_an_example.Goals as goal
 
 -- what is nonnegative at -2 is so, its constant taken twice, at -4
-twice : (a c : ℤ) → pos 0 ≤ℤ value (function (on_line a) c) (on_line minus2) → pos 0 ≤ℤ value_over (function (on_line a) c) (on_line minus4) (pos 2)
+twice : (a c : ℤ) → pos 0 ≤ℤ value (function (on_line a) c) (on_line minus2)
+    → pos 0 ≤ℤ value_over (function (on_line a) c) (on_line minus4) (pos 2)
 twice a c h = omega (arith, ints)
 
 -- for any function

@@ -11,13 +11,17 @@ returns c =
       lower = plane_facet triangle (pos 0) (pos 1) (pos 1) (λ d h. divides_one d (h 1 (pos 0) (omega arith))) refl (λ a b c v.
           let first = v (in_plane minus1 minus1) (0, omega arith, refl) refl in
           let second = v (in_plane (pos 3) minus1) (1, omega arith, refl) refl in
-          plane_multiple (pos 1) b a b c (pos 0) (pos 1) (pos 1) one_nonzero (omega (arith, ints)) (omega (arith, ints)) (omega (arith, ints)));
+          plane_multiple (pos 1) b a b c (pos 0) (pos 1) (pos 1) one_nonzero (omega (arith, ints)) (omega (arith, ints))
+          (omega (arith, ints)));
       left = plane_facet triangle (pos 1) (pos 0) (pos 1) (λ d h. divides_one d (h 0 (pos 0) (omega arith))) refl (λ a b c v.
           let first = v (in_plane minus1 minus1) (0, omega arith, refl) refl in
           let second = v (in_plane minus1 (pos 2)) (2, omega arith, refl) refl in
-          plane_multiple (pos 1) a a b c (pos 1) (pos 0) (pos 1) one_nonzero (omega (arith, ints)) (omega (arith, ints)) (omega (arith, ints)));
-      slanted = plane_facet triangle minus3 minus4 (pos 5) (λ d h. divides_neighbors d minus3 minus4 refl (h 0 (pos 0) (omega arith)) (h 1 (pos 0) (omega arith))) refl (λ a b c v.
+          plane_multiple (pos 1) a a b c (pos 1) (pos 0) (pos 1) one_nonzero (omega (arith, ints)) (omega (arith, ints))
+          (omega (arith, ints)));
+      slanted = plane_facet triangle minus3 minus4 (pos 5) (λ d h. divides_neighbors d minus3 minus4 refl (h 0 (pos 0) (omega arith))
+          (h 1 (pos 0) (omega arith))) refl (λ a b c v.
           let first = v (in_plane (pos 3) minus1) (1, omega arith, refl) refl in
           let second = v (in_plane minus1 (pos 2)) (2, omega arith, refl) refl in
-          plane_multiple minus4 b a b c minus3 minus4 (pos 5) (λ z. omega (arith, ints)) (omega (arith, ints)) (omega (arith, ints)) (omega (arith, ints)));
+          plane_multiple minus4 b a b c minus3 minus4 (pos 5) (λ z. omega (arith, ints)) (omega (arith, ints)) (omega (arith, ints))
+          (omega (arith, ints)));
     }

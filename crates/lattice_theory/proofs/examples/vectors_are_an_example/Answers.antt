@@ -28,6 +28,9 @@ returns c =
           let two : 2 ≡ 1 = h 2 (All-from_recursion (DividesInteger 2) (in_plane (pos 2) (pos 4)) ((pos 1, refl), ((pos 2, refl), tt))) in
           omega arith;
       before = before;
-      ascends = (All-from_recursion (LexLess (in_plane minus1 (pos 5))) (in_plane (pos 0) minus1 ∷ []) (before, tt), (λ k d within. absurd (omega arith), tt));
+      ascends = (
+        All-from_recursion (LexLess (in_plane minus1 (pos 5))) (in_plane (pos 0) minus1 ∷ []) (before, tt),
+        (λ k d within. absurd (omega arith), tt),
+      );
       descends = λ h. behind (h.0 0 (in_plane (pos 0) (pos 0)) (omega arith));
     }

@@ -22,7 +22,9 @@ pub loop-i-init : goal.loop-i-init
 loop-i-init c = record {
   least = omega (arith, ints);
   negative = omega (arith, ints);
-  bound = λ p h agrees. start_bound c.normal-normal.result.now c.low-low.result.now c.high-high.result.now c.position-position.result.now p (to_z w128 (of_z w128 c.args.value)) (dimension (goal.at.loop-i-init c).After-position-position) (inside (goal.at.loop-i-init c).After-position-position) h agrees;
+  bound = λ p h agrees. start_bound c.normal-normal.result.now c.low-low.result.now c.high-high.result.now c.position-position.result.now p
+      (to_z w128 (of_z w128 c.args.value)) (dimension (goal.at.loop-i-init c).After-position-position)
+      (inside (goal.at.loop-i-init c).After-position-position) h agrees;
 }
 
 pub gain-best-requires-clause-small_low : goal.gain-best-requires-clause-small_low
@@ -40,8 +42,10 @@ gain-best-requires-clause-small_high c =
 pub returns-then-best-ge0 : goal.returns-then-best-ge0
 returns-then-best-ge0 c = λ j same.
     let value : to_z w128 (of_z w128 c.args.value) ≡ c.args.value = omega (arith, ints) in
-    negative_along c.args.f.now c.normal-normal.result.now c.low-low.result.now c.high-high.result.now c.position-position.result.now c.args.walk.now.low.items c.args.walk.now.high.items c.args.walk.now.position.items
-    c.loop-i.i (c.loop-i.i - 1 + 1) (to_z w128 (of_z w128 c.args.value)) (to_z w128 c.loop-i.best-bits) c.normal-normal.ensures.value c.low-low.ensures c.high-high.ensures c.position-position.ensures (omega arith)
+    negative_along c.args.f.now c.normal-normal.result.now c.low-low.result.now c.high-high.result.now c.position-position.result.now
+    c.args.walk.now.low.items c.args.walk.now.high.items c.args.walk.now.position.items
+    c.loop-i.i (c.loop-i.i - 1 + 1) (to_z w128 (of_z w128 c.args.value)) (to_z w128 c.loop-i.best-bits) c.normal-normal.ensures.value
+    c.low-low.ensures c.high-high.ensures c.position-position.ensures (omega arith)
     c.loop-i.invariant.negative c.loop-i.invariant.bound j (value ∙ same)
 
 pub loop-i-preserved : goal.loop-i-preserved
@@ -59,13 +63,22 @@ loop-i-preserved c =
     let b = to_z w128 c.loop-i.best-bits in
     let g = c.gain-best.result in
     let b' = to_z w128 (of_z w128 (b +ℤ to_z w128 (of_z w128 g))) in
-    let grown : b' ≡ b +ℤ g = omega (arith, ints, c.loop-i.invariant.least, c.loop-i.invariant.negative, c.gain-best.ensures.least, c.gain-best.ensures.most, c.requires.bound) in
+    let grown : b' ≡ b +ℤ g = omega (
+      arith,
+      ints,
+      c.loop-i.invariant.least,
+      c.loop-i.invariant.negative,
+      c.gain-best.ensures.least,
+      c.gain-best.ensures.most,
+      c.requires.bound,
+    ) in
     let most = simp to_z-of_z at c.gain-best.ensures.bound in
     let next : c.loop-i.i ≡ i + 1 = omega arith in
     let within : i < length n = omega arith in
     record {
       least = omega (arith, ints, grown, c.loop-i.invariant.least, c.gain-best.ensures.least);
       negative = omega (arith, ints);
-      bound = λ p h agrees. bound_more n low high x p c.loop-i.i i v b g b' next within (dimension (goal.at.loop-i-preserved c).After-position-position) (inside (goal.at.loop-i-preserved c).After-position-position)
+      bound = λ p h agrees. bound_more n low high x p c.loop-i.i i v b g b' next within
+          (dimension (goal.at.loop-i-preserved c).After-position-position) (inside (goal.at.loop-i-preserved c).After-position-position)
           c.loop-i.invariant.bound most grown h agrees;
     }

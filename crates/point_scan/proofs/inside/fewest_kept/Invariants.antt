@@ -7,5 +7,6 @@ abbrev pub invariant-loop-i : goal.invariant-loop-i
 invariant-loop-i l = record {
   least : l.value ≤ℤ l.best;
   negative : l.best <ℤ pos 0;
-  bound : (p : List ℤ) → IsInBox l.low l.high p → AgreesTo l.i l.position p → (dot l.normal p +ℤ l.value) ≤ℤ (dot l.normal l.position +ℤ l.best);
+  bound : (p : List ℤ) → IsInBox l.low l.high p → AgreesTo l.i l.position p
+      → (dot l.normal p +ℤ l.value) ≤ℤ (dot l.normal l.position +ℤ l.best);
 }

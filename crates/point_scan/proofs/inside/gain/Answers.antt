@@ -18,8 +18,10 @@ ending c = elim c.if-factor-lt0.branch [
 -- the product is that with the way to the end
 product : (c : After-from-2) → c.from.result *ℤ c.from-2.result ≡ c.args.factor *ℤ (to_z w64 c.if-factor-lt0.end-bits -ℤ c.args.x)
 product c =
-    let end = end_small c.args.factor c.args.low c.args.high (to_z w64 c.if-factor-lt0.end-bits) (2 ^ 33) c.requires.small_low c.requires.small_high (ending c) in
-    let x = between_small c.args.low c.args.high c.args.x (2 ^ 33) c.requires.low c.requires.high c.requires.small_low c.requires.small_high in
+    let end = end_small c.args.factor c.args.low c.args.high (to_z w64 c.if-factor-lt0.end-bits)
+    (2 ^ 33) c.requires.small_low c.requires.small_high (ending c) in
+    let x = between_small c.args.low c.args.high c.args.x (2 ^ 33) c.requires.low c.requires.high c.requires.small_low
+    c.requires.small_high in
     let factor : c.from.result ≡ c.args.factor = omega (arith, ints) in
     let way : c.from-2.result ≡ to_z w64 c.if-factor-lt0.end-bits -ℤ c.args.x = omega (arith, ints, end, x) in
     ap₂ (λ (a b : ℤ). a *ℤ b) factor way
@@ -28,14 +30,16 @@ product c =
 small : (c : After-from-2) → nat_abs (c.from.result *ℤ c.from-2.result) ≤ 2 ^ 97
 small c =
     let factor : nat_abs c.args.factor ≤ 2 ^ 63 = omega (arith, ints) in
-    gain_small c.args.factor c.args.low c.args.high c.args.x (to_z w64 c.if-factor-lt0.end-bits) (c.from.result *ℤ c.from-2.result) factor c.requires.low c.requires.high c.requires.small_low c.requires.small_high (ending c) (product c)
+    gain_small c.args.factor c.args.low c.args.high c.args.x (to_z w64 c.if-factor-lt0.end-bits) (c.from.result *ℤ c.from-2.result) factor
+    c.requires.low c.requires.high c.requires.small_low c.requires.small_high (ending c) (product c)
 
 -- so it fits
 fits : (c : After-from-2) → SFits w128 (c.from.result *ℤ c.from-2.result)
 fits c = fits_signed_from_abs w128 (c.from.result *ℤ c.from-2.result) (omega (arith, small c))
 
 -- what is returned is the product
-same : (c : After-from-2) → to_z w128 (of_z w128 (to_z w128 (of_z w128 c.from.result) *ℤ to_z w128 (of_z w128 c.from-2.result))) ≡ c.from.result *ℤ c.from-2.result
+same : (c : After-from-2) → to_z w128 (of_z w128 (to_z w128 (of_z w128 c.from.result) *ℤ to_z w128 (of_z w128 c.from-2.result)))
+    ≡ c.from.result *ℤ c.from-2.result
 same c =
     let first : SFits w128 c.from.result = search rules in
     let second : SFits w128 c.from-2.result = search rules in
@@ -51,7 +55,8 @@ overflow_mul-result c =
 pub returns-clause-least : goal.returns-clause-least
 returns-clause-least c =
     let e = same c in
-    let l = gain_least c.args.factor c.args.low c.args.high c.args.x (to_z w64 c.if-factor-lt0.end-bits) (c.from.result *ℤ c.from-2.result) c.requires.low c.requires.high (ending c) (product c) in
+    let l = gain_least c.args.factor c.args.low c.args.high c.args.x (to_z w64 c.if-factor-lt0.end-bits) (c.from.result *ℤ c.from-2.result)
+    c.requires.low c.requires.high (ending c) (product c) in
     rw e l
 
 pub returns-clause-most : goal.returns-clause-most
@@ -60,4 +65,5 @@ returns-clause-most c = let e = same c in rw e (omega (arith, small c))
 pub returns-clause-bound : goal.returns-clause-bound
 returns-clause-bound c = λ y h k.
     let e = same c in
-    rw e (gain_most c.args.factor c.args.low c.args.high c.args.x (to_z w64 c.if-factor-lt0.end-bits) (c.from.result *ℤ c.from-2.result) y (ending c) (product c) h k)
+    rw e (gain_most c.args.factor c.args.low c.args.high c.args.x (to_z w64 c.if-factor-lt0.end-bits) (c.from.result *ℤ c.from-2.result) y
+    (ending c) (product c) h k)

@@ -13,4 +13,5 @@ overflow_add-result c =
     let factor : nat_abs c.from.result ≤ 7 = omega (arith, ints) in
     let constant : nat_abs c.constant.result ≤ 2 ^ 100 = rw c.constant.ensures c.requires.constant in
     let product : SFits w128 (c.from.result *ℤ c.constant.result) = product_fits c.from.result c.constant.result factor constant in
-    simp to_z-of_z (value_fits c.pair.result c.from.result c.constant.result (omega (arith, c.pair.ensures.right, c.requires.small)) factor constant)
+    simp to_z-of_z (value_fits c.pair.result c.from.result c.constant.result (omega (arith, c.pair.ensures.right, c.requires.small)) factor
+    constant)

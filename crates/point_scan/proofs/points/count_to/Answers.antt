@@ -12,7 +12,11 @@ use Rattle.point_scan.proofs.points.count_to.Goals.{After-start-walk, After-adva
 
 -- the vertices are solid
 solid : (c : After-start-walk) → AreSolid (dimension_of c.args.vertices.now) c.args.vertices.now
-solid c = record { coordinates = c.start-walk.ensures.least; dimension = c.requires.vertices.sized.are_points.one_dimension; solid = c.requires.vertices.solid }
+solid c = record {
+  coordinates = c.start-walk.ensures.least;
+  dimension = c.requires.vertices.sized.are_points.one_dimension;
+  solid = c.requires.vertices.solid;
+}
 
 pub loop-kept-init : goal.loop-kept-init
 loop-kept-init c =
@@ -25,29 +29,44 @@ loop-kept-init c =
     record { found = []; at = rw c.start-walk.ensures.position start; counted = refl; few = omega arith }
 
 pub ruled_out-requires-clause-dimension : goal.ruled_out-requires-clause-dimension
-ruled_out-requires-clause-dimension c = (can_rule_out (dimension_of c.args.vertices.now) c.args.vertices.now (solid (goal.at.ruled_out-requires-clause-dimension c).After-start-walk)
+ruled_out-requires-clause-dimension c =
+    (can_rule_out (dimension_of c.args.vertices.now) c.args.vertices.now
+    (solid (goal.at.ruled_out-requires-clause-dimension c).After-start-walk)
     c.start-walk.ensures.most c.requires.vertices.sized.within c.args.facets.now c.requires.facets c.args.dilate c.requires.dilate
-    c.loop-kept.walk.low.items c.loop-kept.walk.high.items c.loop-kept.walk.position.items c.loop-kept.invariant.found c.loop-kept.invariant.at).dimension
+    c.loop-kept.walk.low.items c.loop-kept.walk.high.items c.loop-kept.walk.position.items c.loop-kept.invariant.found
+    c.loop-kept.invariant.at).dimension
 
 pub ruled_out-requires-clause-constants : goal.ruled_out-requires-clause-constants
-ruled_out-requires-clause-constants c = (can_rule_out (dimension_of c.args.vertices.now) c.args.vertices.now (solid (goal.at.ruled_out-requires-clause-constants c).After-start-walk)
+ruled_out-requires-clause-constants c =
+    (can_rule_out (dimension_of c.args.vertices.now) c.args.vertices.now
+    (solid (goal.at.ruled_out-requires-clause-constants c).After-start-walk)
     c.start-walk.ensures.most c.requires.vertices.sized.within c.args.facets.now c.requires.facets c.args.dilate c.requires.dilate
-    c.loop-kept.walk.low.items c.loop-kept.walk.high.items c.loop-kept.walk.position.items c.loop-kept.invariant.found c.loop-kept.invariant.at).constants
+    c.loop-kept.walk.low.items c.loop-kept.walk.high.items c.loop-kept.walk.position.items c.loop-kept.invariant.found
+    c.loop-kept.invariant.at).constants
 
 pub ruled_out-requires-clause-small : goal.ruled_out-requires-clause-small
-ruled_out-requires-clause-small c = (can_rule_out (dimension_of c.args.vertices.now) c.args.vertices.now (solid (goal.at.ruled_out-requires-clause-small c).After-start-walk)
+ruled_out-requires-clause-small c =
+    (can_rule_out (dimension_of c.args.vertices.now) c.args.vertices.now
+    (solid (goal.at.ruled_out-requires-clause-small c).After-start-walk)
     c.start-walk.ensures.most c.requires.vertices.sized.within c.args.facets.now c.requires.facets c.args.dilate c.requires.dilate
-    c.loop-kept.walk.low.items c.loop-kept.walk.high.items c.loop-kept.walk.position.items c.loop-kept.invariant.found c.loop-kept.invariant.at).small
+    c.loop-kept.walk.low.items c.loop-kept.walk.high.items c.loop-kept.walk.position.items c.loop-kept.invariant.found
+    c.loop-kept.invariant.at).small
 
 pub ruled_out-requires-clause-small_low : goal.ruled_out-requires-clause-small_low
-ruled_out-requires-clause-small_low c = (can_rule_out (dimension_of c.args.vertices.now) c.args.vertices.now (solid (goal.at.ruled_out-requires-clause-small_low c).After-start-walk)
+ruled_out-requires-clause-small_low c =
+    (can_rule_out (dimension_of c.args.vertices.now) c.args.vertices.now
+    (solid (goal.at.ruled_out-requires-clause-small_low c).After-start-walk)
     c.start-walk.ensures.most c.requires.vertices.sized.within c.args.facets.now c.requires.facets c.args.dilate c.requires.dilate
-    c.loop-kept.walk.low.items c.loop-kept.walk.high.items c.loop-kept.walk.position.items c.loop-kept.invariant.found c.loop-kept.invariant.at).small_low
+    c.loop-kept.walk.low.items c.loop-kept.walk.high.items c.loop-kept.walk.position.items c.loop-kept.invariant.found
+    c.loop-kept.invariant.at).small_low
 
 pub ruled_out-requires-clause-small_high : goal.ruled_out-requires-clause-small_high
-ruled_out-requires-clause-small_high c = (can_rule_out (dimension_of c.args.vertices.now) c.args.vertices.now (solid (goal.at.ruled_out-requires-clause-small_high c).After-start-walk)
+ruled_out-requires-clause-small_high c =
+    (can_rule_out (dimension_of c.args.vertices.now) c.args.vertices.now
+    (solid (goal.at.ruled_out-requires-clause-small_high c).After-start-walk)
     c.start-walk.ensures.most c.requires.vertices.sized.within c.args.facets.now c.requires.facets c.args.dilate c.requires.dilate
-    c.loop-kept.walk.low.items c.loop-kept.walk.high.items c.loop-kept.walk.position.items c.loop-kept.invariant.found c.loop-kept.invariant.at).small_high
+    c.loop-kept.walk.low.items c.loop-kept.walk.high.items c.loop-kept.walk.position.items c.loop-kept.invariant.found
+    c.loop-kept.invariant.at).small_high
 
 pub returns-else-count-limit : goal.returns-else-count-limit
 returns-else-count-limit c =
@@ -55,7 +74,8 @@ returns-else-count-limit c =
     let n = dimension_of vertices in
     let s = solid (goal.at.returns-else-count-limit c).After-start-walk in
     let i = c.loop-kept.invariant in
-    let all = has_more n vertices s c.args.dilate c.loop-kept.walk.low.items c.loop-kept.walk.high.items c.args.facets.now c.requires.facets c.loop-kept.walk.position.items
+    let all = has_more n vertices s c.args.dilate c.loop-kept.walk.low.items c.loop-kept.walk.high.items c.args.facets.now c.requires.facets
+    c.loop-kept.walk.position.items
     i.found i.at c.in_default.ensures.none in
     let more = all.more in
     record { lattice = all.lattice; are_dilate_points = all.are_dilate_points; counted_is = omega (arith, i.counted, i.few) }
@@ -63,7 +83,8 @@ returns-else-count-limit c =
 -- what is known before the step of the walk
 record IsReady (c : After-advance) : Type 0 where
   found : List (List ℤ)
-  past : IsPast (dimension_of c.args.vertices.now) c.args.vertices.now c.args.dilate c.match-ruled_out.walk.low.items c.match-ruled_out.walk.high.items
+  past : IsPast (dimension_of c.args.vertices.now) c.args.vertices.now c.args.dilate c.match-ruled_out.walk.low.items
+      c.match-ruled_out.walk.high.items
       c.match-ruled_out.walk.position.items found
   later : LexAtMost c.loop-kept.walk.position.items c.match-ruled_out.walk.position.items
   low_is : c.match-ruled_out.walk.low.items ≡ c.loop-kept.walk.low.items
@@ -95,11 +116,13 @@ ready c =
           let low_is = ap (λ v. v.low.items) w.walk-is ∙ w.pass_over.ensures.low in
           let high_is = ap (λ v. v.high.items) w.walk-is ∙ w.pass_over.ensures.high in
           let x_is = ap (λ v. v.position.items) w.walk-is in
-          let over = passed n points s c.args.dilate low high facets c.requires.facets x w.pass_over.new.self.position.items found w.in-Some.kept i.at w.in-Some.ensures.some
+          let over = passed n points s c.args.dilate low high facets c.requires.facets x w.pass_over.new.self.position.items found
+          w.in-Some.kept i.at w.in-Some.ensures.some
           w.pass_over.ensures.passes in
           record {
             found = found;
-            past = past_moved n points c.args.dilate low high w.pass_over.new.self.position.items low' high' x' found found low_is high_is x_is refl over;
+            past = past_moved n points c.args.dilate low high w.pass_over.new.self.position.items low' high' x' found found low_is high_is
+                x_is refl over;
             later = rw x_is w.pass_over.ensures.passes.later;
             low_is = low_is;
             high_is = high_is;
@@ -114,7 +137,8 @@ ready c =
           let longer = length-append found (x ∷ []) in
           record {
             found = found ++ x ∷ [];
-            past = past_moved n points c.args.dilate low high x low' high' x' (found ++ x ∷ []) (found ++ x ∷ []) low_is high_is x_is refl one;
+            past = past_moved n points c.args.dilate low high x low' high' x' (found ++ x ∷ []) (found ++ x ∷ []) low_is high_is x_is
+                refl one;
             later = inr (sym x_is);
             low_is = low_is;
             high_is = high_is;
@@ -149,8 +173,10 @@ loop-kept-smaller c =
     let y = c.advance.new.self.position.items in
     let known = ready (goal.at.loop-kept-smaller c).After-advance in
     let step : IsNext (IsInBox low high) x y = subst (Follows (IsInBox low high) x y) c.if-not-advance.false c.advance.ensures.step in
-    fewer_moved n c.args.vertices.now c.args.dilate c.loop-kept.walk.low.items c.loop-kept.walk.high.items c.loop-kept.walk.position.items low high x
-    c.advance.new.self.low.items c.advance.new.self.high.items y known.past.corners known.later step known.low_is known.high_is c.advance.ensures.low
+    fewer_moved n c.args.vertices.now c.args.dilate c.loop-kept.walk.low.items c.loop-kept.walk.high.items c.loop-kept.walk.position.items
+    low high x
+    c.advance.new.self.low.items c.advance.new.self.high.items y known.past.corners known.later step known.low_is known.high_is
+    c.advance.ensures.low
     c.advance.ensures.high
 
 pub loop-kept-preserved : goal.loop-kept-preserved
@@ -166,7 +192,8 @@ loop-kept-preserved c =
     let step : IsNext (IsInBox low high) x y = subst (Follows (IsInBox low high) x y) c.if-not-advance.false c.advance.ensures.step in
     record {
       found = found;
-      at = at_moved n c.args.vertices.now c.args.dilate low high y c.advance.new.self.low.items c.advance.new.self.high.items found c.advance.ensures.low c.advance.ensures.high
+      at = at_moved n c.args.vertices.now c.args.dilate low high y c.advance.new.self.low.items c.advance.new.self.high.items found
+          c.advance.ensures.low c.advance.ensures.high
           (advanced n c.args.vertices.now s c.args.dilate low high x y found known.past step);
       counted = known.counted;
       few = known.few;

@@ -13,7 +13,11 @@ use Rattle.point_scan.proofs.points.scan.Goals.{After-start-walk, After-advance,
 
 -- the vertices are solid
 solid : (c : After-start-walk) → AreSolid (dimension_of c.args.vertices.now) c.args.vertices.now
-solid c = record { coordinates = c.start-walk.ensures.least; dimension = c.requires.vertices.sized.are_points.one_dimension; solid = c.requires.vertices.solid }
+solid c = record {
+  coordinates = c.start-walk.ensures.least;
+  dimension = c.requires.vertices.sized.are_points.one_dimension;
+  solid = c.requires.vertices.solid;
+}
 
 pub loop-kept-init : goal.loop-kept-init
 loop-kept-init c =
@@ -27,41 +31,61 @@ loop-kept-init c =
     record { at = rw (c.start-walk.ensures.position, none) start; few = omega (arith, ap length none) }
 
 pub ruled_out-requires-clause-dimension : goal.ruled_out-requires-clause-dimension
-ruled_out-requires-clause-dimension c = (can_rule_out (dimension_of c.args.vertices.now) c.args.vertices.now (solid (goal.at.ruled_out-requires-clause-dimension c).After-start-walk)
+ruled_out-requires-clause-dimension c =
+    (can_rule_out (dimension_of c.args.vertices.now) c.args.vertices.now
+    (solid (goal.at.ruled_out-requires-clause-dimension c).After-start-walk)
     c.start-walk.ensures.most c.requires.vertices.sized.within c.args.facets.now c.requires.facets 1 (omega arith)
-    c.loop-kept.walk.low.items c.loop-kept.walk.high.items c.loop-kept.walk.position.items c.loop-kept.points.items c.loop-kept.invariant.at).dimension
+    c.loop-kept.walk.low.items c.loop-kept.walk.high.items c.loop-kept.walk.position.items c.loop-kept.points.items
+    c.loop-kept.invariant.at).dimension
 
 pub ruled_out-requires-clause-constants : goal.ruled_out-requires-clause-constants
-ruled_out-requires-clause-constants c = (can_rule_out (dimension_of c.args.vertices.now) c.args.vertices.now (solid (goal.at.ruled_out-requires-clause-constants c).After-start-walk)
+ruled_out-requires-clause-constants c =
+    (can_rule_out (dimension_of c.args.vertices.now) c.args.vertices.now
+    (solid (goal.at.ruled_out-requires-clause-constants c).After-start-walk)
     c.start-walk.ensures.most c.requires.vertices.sized.within c.args.facets.now c.requires.facets 1 (omega arith)
-    c.loop-kept.walk.low.items c.loop-kept.walk.high.items c.loop-kept.walk.position.items c.loop-kept.points.items c.loop-kept.invariant.at).constants
+    c.loop-kept.walk.low.items c.loop-kept.walk.high.items c.loop-kept.walk.position.items c.loop-kept.points.items
+    c.loop-kept.invariant.at).constants
 
 pub ruled_out-requires-clause-small : goal.ruled_out-requires-clause-small
-ruled_out-requires-clause-small c = (can_rule_out (dimension_of c.args.vertices.now) c.args.vertices.now (solid (goal.at.ruled_out-requires-clause-small c).After-start-walk)
+ruled_out-requires-clause-small c =
+    (can_rule_out (dimension_of c.args.vertices.now) c.args.vertices.now
+    (solid (goal.at.ruled_out-requires-clause-small c).After-start-walk)
     c.start-walk.ensures.most c.requires.vertices.sized.within c.args.facets.now c.requires.facets 1 (omega arith)
-    c.loop-kept.walk.low.items c.loop-kept.walk.high.items c.loop-kept.walk.position.items c.loop-kept.points.items c.loop-kept.invariant.at).small
+    c.loop-kept.walk.low.items c.loop-kept.walk.high.items c.loop-kept.walk.position.items c.loop-kept.points.items
+    c.loop-kept.invariant.at).small
 
 pub ruled_out-requires-clause-small_low : goal.ruled_out-requires-clause-small_low
-ruled_out-requires-clause-small_low c = (can_rule_out (dimension_of c.args.vertices.now) c.args.vertices.now (solid (goal.at.ruled_out-requires-clause-small_low c).After-start-walk)
+ruled_out-requires-clause-small_low c =
+    (can_rule_out (dimension_of c.args.vertices.now) c.args.vertices.now
+    (solid (goal.at.ruled_out-requires-clause-small_low c).After-start-walk)
     c.start-walk.ensures.most c.requires.vertices.sized.within c.args.facets.now c.requires.facets 1 (omega arith)
-    c.loop-kept.walk.low.items c.loop-kept.walk.high.items c.loop-kept.walk.position.items c.loop-kept.points.items c.loop-kept.invariant.at).small_low
+    c.loop-kept.walk.low.items c.loop-kept.walk.high.items c.loop-kept.walk.position.items c.loop-kept.points.items
+    c.loop-kept.invariant.at).small_low
 
 pub ruled_out-requires-clause-small_high : goal.ruled_out-requires-clause-small_high
-ruled_out-requires-clause-small_high c = (can_rule_out (dimension_of c.args.vertices.now) c.args.vertices.now (solid (goal.at.ruled_out-requires-clause-small_high c).After-start-walk)
+ruled_out-requires-clause-small_high c =
+    (can_rule_out (dimension_of c.args.vertices.now) c.args.vertices.now
+    (solid (goal.at.ruled_out-requires-clause-small_high c).After-start-walk)
     c.start-walk.ensures.most c.requires.vertices.sized.within c.args.facets.now c.requires.facets 1 (omega arith)
-    c.loop-kept.walk.low.items c.loop-kept.walk.high.items c.loop-kept.walk.position.items c.loop-kept.points.items c.loop-kept.invariant.at).small_high
+    c.loop-kept.walk.low.items c.loop-kept.walk.high.items c.loop-kept.walk.position.items c.loop-kept.points.items
+    c.loop-kept.invariant.at).small_high
 
 pub returns-else-len-lt-MOST_POINTS-clause-refused : goal.returns-else-len-lt-MOST_POINTS-clause-refused
 returns-else-len-lt-MOST_POINTS-clause-refused c =
     let vertices = c.args.vertices.now in
     let n = dimension_of vertices in
     let s = solid (goal.at.returns-else-len-lt-MOST_POINTS-clause-refused c).After-start-walk in
-    let all = has_more n vertices s 1 c.loop-kept.walk.low.items c.loop-kept.walk.high.items c.args.facets.now c.requires.facets c.loop-kept.walk.position.items
+    let all = has_more n vertices s 1 c.loop-kept.walk.low.items c.loop-kept.walk.high.items c.args.facets.now c.requires.facets
+    c.loop-kept.walk.position.items
     c.loop-kept.points.items c.loop-kept.invariant.at c.in_default.ensures.none in
     let more = all.more in (
       refl,
       refl,
-      record { lattice = all.lattice; are_lattice_points = lattice_from_dilate n vertices s all.lattice all.are_dilate_points; more = omega arith },
+      record {
+        lattice = all.lattice;
+        are_lattice_points = lattice_from_dilate n vertices s all.lattice all.are_dilate_points;
+        more = omega arith;
+      },
     )
 
 -- what is known before the step of the walk
@@ -97,10 +121,12 @@ ready c =
           let low_is = ap (λ v. v.low.items) w.walk-is ∙ w.pass_over.ensures.low in
           let high_is = ap (λ v. v.high.items) w.walk-is ∙ w.pass_over.ensures.high in
           let x_is = ap (λ v. v.position.items) w.walk-is in
-          let over = passed n points s 1 low high facets c.requires.facets x w.pass_over.new.self.position.items found w.in-Some.kept i.at w.in-Some.ensures.some
+          let over = passed n points s 1 low high facets c.requires.facets x w.pass_over.new.self.position.items found w.in-Some.kept i.at
+          w.in-Some.ensures.some
           w.pass_over.ensures.passes in
           record {
-            past = past_moved n points 1 low high w.pass_over.new.self.position.items low' high' x' found c.match-ruled_out.points.items low_is high_is x_is
+            past = past_moved n points 1 low high w.pass_over.new.self.position.items low' high' x' found c.match-ruled_out.points.items
+                low_is high_is x_is
                 (ap (λ vs. vs.items) w.points-is) over;
             later = rw x_is w.pass_over.ensures.passes.later;
             low_is = low_is;
@@ -112,10 +138,12 @@ ready c =
           let high_is = ap (λ v. v.high.items) w.walk-is in
           let x_is = ap (λ v. v.position.items) w.walk-is in
           let one = kept n points s 1 low high facets c.requires.facets x found i.at w.in_default.ensures.none in
-          let points_are = ap (λ vs. vs.items) w.points-is ∙ w.in_ok-push.ensures.items ∙ ap (λ (p : List ℤ). found ++ p ∷ []) (w.point_at.ensures ∙ w.position.ensures) in
+          let points_are = ap (λ vs. vs.items) w.points-is ∙ w.in_ok-push.ensures.items ∙ ap (λ (p : List ℤ). found ++ p ∷ [])
+          (w.point_at.ensures ∙ w.position.ensures) in
           let longer = ap length points_are ∙ length-append found (x ∷ []) in
           record {
-            past = past_moved n points 1 low high x low' high' x' (found ++ x ∷ []) c.match-ruled_out.points.items low_is high_is x_is points_are one;
+            past = past_moved n points 1 low high x low' high' x' (found ++ x ∷ []) c.match-ruled_out.points.items low_is high_is x_is
+                points_are one;
             later = inr (sym x_is);
             low_is = low_is;
             high_is = high_is;
@@ -134,7 +162,8 @@ returns-then-not-advance-clause-points c =
     let known = ready (goal.at.returns-then-not-advance-clause-points c).After-advance in
     let s = solid (goal.at.returns-then-not-advance-clause-points c).After-start-walk in
     let step : Follows (IsInBox low high) x y false = subst (Follows (IsInBox low high) x y) c.if-not-advance.true c.advance.ensures.step in
-    lattice_from_dilate n vertices s c.match-ruled_out.points.items (finished n vertices s 1 low high x y c.match-ruled_out.points.items known.past step)
+    lattice_from_dilate n vertices s c.match-ruled_out.points.items
+    (finished n vertices s 1 low high x y c.match-ruled_out.points.items known.past step)
 
 pub loop-kept-smaller : goal.loop-kept-smaller
 loop-kept-smaller c =
@@ -146,7 +175,8 @@ loop-kept-smaller c =
     let known = ready (goal.at.loop-kept-smaller c).After-advance in
     let step : IsNext (IsInBox low high) x y = subst (Follows (IsInBox low high) x y) c.if-not-advance.false c.advance.ensures.step in
     fewer_moved n c.args.vertices.now 1 c.loop-kept.walk.low.items c.loop-kept.walk.high.items c.loop-kept.walk.position.items low high x
-    c.advance.new.self.low.items c.advance.new.self.high.items y known.past.corners known.later step known.low_is known.high_is c.advance.ensures.low
+    c.advance.new.self.low.items c.advance.new.self.high.items y known.past.corners known.later step known.low_is known.high_is
+    c.advance.ensures.low
     c.advance.ensures.high
 
 pub loop-kept-preserved : goal.loop-kept-preserved
@@ -161,7 +191,8 @@ loop-kept-preserved c =
     let found = c.match-ruled_out.points.items in
     let step : IsNext (IsInBox low high) x y = subst (Follows (IsInBox low high) x y) c.if-not-advance.false c.advance.ensures.step in
     record {
-      at = at_moved n c.args.vertices.now 1 low high y c.advance.new.self.low.items c.advance.new.self.high.items found c.advance.ensures.low c.advance.ensures.high
+      at = at_moved n c.args.vertices.now 1 low high y c.advance.new.self.low.items c.advance.new.self.high.items found
+          c.advance.ensures.low c.advance.ensures.high
           (advanced n c.args.vertices.now s 1 low high x y found known.past step);
       few = known.few;
     }

@@ -19,7 +19,8 @@ returns-then-position-i c =
     let v_is : v ≡ entry c.loop-i.position i +ℤ pos 1 = omega (arith, ints) in
     let next : c.loop-i.i ≡ i + 1 = omega arith in
     let within : i < length old = omega arith in
-    let step = set_step low high old c.loop-i.position c.loop-i.i i c.loop-i.auto.position next within c.loop-i.invariant.front c.loop-i.invariant.back v v_is room in
+    let step = set_step low high old c.loop-i.position c.loop-i.i i c.loop-i.auto.position next within c.loop-i.invariant.front
+    c.loop-i.invariant.back v v_is room in
     step_next low high old _ i c.requires step
 
 pub loop-i-preserved : goal.loop-i-preserved
@@ -37,8 +38,10 @@ loop-i-preserved c =
     let next : c.loop-i.i ≡ i + 1 = omega arith in
     let within : i < length old = omega arith in
     record {
-      front = set_front low high old c.loop-i.position c.loop-i.i i c.loop-i.auto.position next within c.loop-i.invariant.front c.loop-i.invariant.back v;
-      back = set_back low high old c.loop-i.position c.loop-i.i i c.loop-i.auto.position next within c.loop-i.invariant.front c.loop-i.invariant.back v v_is above (c.requires.within i within).1;
+      front = set_front low high old c.loop-i.position c.loop-i.i i c.loop-i.auto.position next within c.loop-i.invariant.front
+          c.loop-i.invariant.back v;
+      back = set_back low high old c.loop-i.position c.loop-i.i i c.loop-i.auto.position next within c.loop-i.invariant.front
+          c.loop-i.invariant.back v v_is above (c.requires.within i within).1;
     }
 
 pub returns : goal.returns

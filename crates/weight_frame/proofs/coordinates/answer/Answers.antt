@@ -16,9 +16,11 @@ coordinates_of-requires-clause-leads c = frame_leads _ c.args.vectors.now c.requ
 
 pub returns-in-None : goal.returns-in-None
 returns-in-None c =
-    large_answer (record { systems = weighted_all c.args.systems.now; vectors = c.args.vectors.now }) c.args.x.now c.requires.frame.is_frame (c.is_inside.ensures.0 c.if-not-is_inside.false) c.requires.columns c.in-None.ensures
+    large_answer (record { systems = weighted_all c.args.systems.now; vectors = c.args.vectors.now }) c.args.x.now c.requires.frame.is_frame
+    (c.is_inside.ensures.0 c.if-not-is_inside.false) c.requires.columns c.in-None.ensures
 
 pub returns-in-Some-new : goal.returns-in-Some-new
 returns-in-Some-new c =
-    at_answer (record { systems = weighted_all c.args.systems.now; vectors = c.args.vectors.now }) c.args.x.now c.in-Some.found.items c.in-Some-new.coordinates c.requires.frame.is_frame (c.is_inside.ensures.0 c.if-not-is_inside.false) c.requires.columns
+    at_answer (record { systems = weighted_all c.args.systems.now; vectors = c.args.vectors.now }) c.args.x.now c.in-Some.found.items
+    c.in-Some-new.coordinates c.requires.frame.is_frame (c.is_inside.ensures.0 c.if-not-is_inside.false) c.requires.columns
     c.in-Some.ensures (c.in-Some-new.ensures.entries ∙ c.as_slice.ensures.value)

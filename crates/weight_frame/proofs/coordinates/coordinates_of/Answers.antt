@@ -14,8 +14,10 @@ returns-then-unsigned_abs-gt-MOST_COORDINATE c =
     let fits : SFits w128 c.next_coordinate-next.result = search rules in
     let abs : c.unsigned_abs.result ≡ nat_abs c.next_coordinate-next.result = simp to_z-of_z at c.unsigned_abs.ensures.value in
     let large : MOST_COORDINATE < nat_abs c.next_coordinate-next.result = omega arith in
-    let next : IsNextCoordinate c.args.vectors.now c.args.x.now c.loop-place.found.items c.next_coordinate-next.result = rw c.as_slice.ensures.value at c.next_coordinate-next.ensures in
-    found_large c.args.vectors.now c.args.x.now c.loop-place.found.items c.loop-place._place c.next_coordinate-next.result c.loop-place.invariant next large
+    let next : IsNextCoordinate c.args.vectors.now c.args.x.now c.loop-place.found.items c.next_coordinate-next.result =
+    rw c.as_slice.ensures.value at c.next_coordinate-next.ensures in
+    found_large c.args.vectors.now c.args.x.now c.loop-place.found.items c.loop-place._place c.next_coordinate-next.result
+    c.loop-place.invariant next large
 
 pub loop-place-preserved : goal.loop-place-preserved
 loop-place-preserved c =
@@ -23,11 +25,14 @@ loop-place-preserved c =
     let narrow : SFits w64 c.narrowed_entry.result = search rules in
     let abs : c.unsigned_abs.result ≡ nat_abs c.next_coordinate-next.result = simp to_z-of_z at c.unsigned_abs.ensures.value in
     let small : nat_abs c.next_coordinate-next.result ≤ MOST_COORDINATE = omega arith in
-    let next : IsNextCoordinate c.args.vectors.now c.args.x.now c.loop-place.found.items c.next_coordinate-next.result = rw c.as_slice.ensures.value at c.next_coordinate-next.ensures in
+    let next : IsNextCoordinate c.args.vectors.now c.args.x.now c.loop-place.found.items c.next_coordinate-next.result =
+    rw c.as_slice.ensures.value at c.next_coordinate-next.ensures in
     let same : c.narrowed_entry.result ≡ c.next_coordinate-next.result = simp to_z-of_z at c.narrowed_entry.ensures in
-    let pushed : c.push.new.self.items ≡ c.loop-place.found.items ++ (c.narrowed_entry.result ∷ []) = simp to_z-of_z at c.push.ensures.items in
+    let pushed : c.push.new.self.items ≡ c.loop-place.found.items ++ (c.narrowed_entry.result ∷ []) =
+    simp to_z-of_z at c.push.ensures.items in
     let items = pushed ∙ ap (λ a. c.loop-place.found.items ++ (a ∷ [])) same in
-    found_more c.args.vectors.now c.args.x.now c.loop-place.found.items c.push.new.self.items c.loop-place._place c.next_coordinate-next.result (omega arith) c.loop-place.invariant next small items
+    found_more c.args.vectors.now c.args.x.now c.loop-place.found.items c.push.new.self.items c.loop-place._place
+    c.next_coordinate-next.result (omega arith) c.loop-place.invariant next small items
 
 pub returns : goal.returns
 returns c = found_all c.args.vectors.now c.args.x.now c.loop-place.found.items c.loop-place._place (omega arith) c.loop-place.invariant

@@ -8,12 +8,17 @@ pub loop-place-init : goal.loop-place-init
 loop-place-init c = λ j h. absurd (omega arith)
 
 pub returns-then-x-place-ne0 : goal.returns-then-x-place-ne0
-returns-then-x-place-ne0 c = record { within = c.loop-place-test.true; before = c.loop-place.invariant; nonzero = nonzero_from (entry c.args.x.now c.loop-place.place) c.if-x-place-ne0.true }
+returns-then-x-place-ne0 c = record {
+  within = c.loop-place-test.true;
+  before = c.loop-place.invariant;
+  nonzero = nonzero_from (entry c.args.x.now c.loop-place.place) c.if-x-place-ne0.true;
+}
 
 pub loop-place-preserved : goal.loop-place-preserved
 loop-place-preserved c =
     let fits : SFits w64 (entry c.args.x.now c.loop-place.place) = search rules in
-    zeros_more c.args.x.now c.loop-place.place (zero_from (entry c.args.x.now c.loop-place.place) fits c.if-x-place-ne0.false) c.loop-place.invariant
+    zeros_more c.args.x.now c.loop-place.place (zero_from (entry c.args.x.now c.loop-place.place) fits c.if-x-place-ne0.false)
+    c.loop-place.invariant
 
 pub returns : goal.returns
 returns c = zeros_all c.args.x.now c.loop-place.place (omega arith) c.loop-place.invariant

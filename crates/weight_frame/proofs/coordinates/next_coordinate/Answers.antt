@@ -14,7 +14,8 @@ bounds-x-place c =
     let place = c.in-Some.place in
     let given : IsFirstPlace c.entries-vector.result.now place = c.in-Some.ensures in
     let first : IsFirstPlace b place = rw c.entries-vector.ensures.value at given in
-    let at = vector_at (length c.args.x.now) c.args.vectors.now (length c.args.found.now) b c.requires.small c.requires.some c.index-vectors-found.is in
+    let at = vector_at (length c.args.x.now) c.args.vectors.now (length c.args.found.now) b c.requires.small c.requires.some
+    c.index-vectors-found.is in
     let within : place < length c.args.x.now = rw at.dimension at first.within in
     within
 
@@ -24,7 +25,8 @@ combined_entry-requires c =
     let place = c.in-Some.place in
     let given : IsFirstPlace c.entries-vector.result.now place = c.in-Some.ensures in
     let first : IsFirstPlace b place = rw c.entries-vector.ensures.value at given in
-    let at = vector_at (length c.args.x.now) c.args.vectors.now (length c.args.found.now) b c.requires.small c.requires.some c.index-vectors-found.is in
+    let at = vector_at (length c.args.x.now) c.args.vectors.now (length c.args.found.now) b c.requires.small c.requires.some
+    c.index-vectors-found.is in
     let within : place < length c.args.x.now = rw at.dimension at first.within in
     record {
       count = omega arith;
@@ -40,17 +42,22 @@ quotient_of-requires c =
     let place = c.in-Some.place in
     let given : IsFirstPlace c.entries-vector.result.now place = c.in-Some.ensures in
     let first : IsFirstPlace b place = rw c.entries-vector.ensures.value at given in
-    let at = vector_at (length c.args.x.now) c.args.vectors.now (length c.args.found.now) b c.requires.small c.requires.some c.index-vectors-found.is in
+    let at = vector_at (length c.args.x.now) c.args.vectors.now (length c.args.found.now) b c.requires.small c.requires.some
+    c.index-vectors-found.is in
     let within : place < length c.args.x.now = rw at.dimension at first.within in
     let s : SFits w128 c.combined_entry.result = search rules in
     let d : SFits w64 (entry c.entries-vector.result.now place) = search rules in
-    let positive : pos 0 <ℤ entry c.entries-vector.result.now place = rw c.entries-vector.ensures.value (first_positive c.args.vectors.now (length c.args.found.now) b place c.requires.some c.requires.leads c.index-vectors-found.is first) in
+    let positive : pos 0 <ℤ entry c.entries-vector.result.now place =
+    rw c.entries-vector.ensures.value
+    (first_positive c.args.vectors.now (length c.args.found.now) b place c.requires.some c.requires.leads c.index-vectors-found.is
+    first) in
     record { small = simp to_z-of_z c.combined_entry.ensures.bound; positive = simp to_z-of_z positive }
 
 pub unreachable-requires : goal.unreachable-requires
 unreachable-requires c =
     let given : All (λ a. a ≡ pos 0) c.entries-vector.result.now = c.in-None.ensures in
-    no_zeros c.args.vectors.now (length c.args.found.now) c.index-vectors-found.result c.requires.some c.requires.leads c.index-vectors-found.is (rw c.entries-vector.ensures.value at given)
+    no_zeros c.args.vectors.now (length c.args.found.now) c.index-vectors-found.result c.requires.some c.requires.leads
+    c.index-vectors-found.is (rw c.entries-vector.ensures.value at given)
 
 pub returns : goal.returns
 returns c =
@@ -58,7 +65,8 @@ returns c =
     let place = c.in-Some.place in
     let given : IsFirstPlace c.entries-vector.result.now place = c.in-Some.ensures in
     let first : IsFirstPlace b place = rw c.entries-vector.ensures.value at given in
-    let at = vector_at (length c.args.x.now) c.args.vectors.now (length c.args.found.now) b c.requires.small c.requires.some c.index-vectors-found.is in
+    let at = vector_at (length c.args.x.now) c.args.vectors.now (length c.args.found.now) b c.requires.small c.requires.some
+    c.index-vectors-found.is in
     let within : place < length c.args.x.now = rw at.dimension at first.within in
     let s : SFits w128 c.combined_entry.result = search rules in
     let d : SFits w64 (entry c.entries-vector.result.now place) = search rules in
@@ -66,4 +74,5 @@ returns c =
     let q : SFits w128 c.quotient_of.result = search rules in
     let value = simp to_z-of_z at c.quotient_of.ensures in
     let value' = rw c.entries-vector.ensures.value at value in
-    simp to_z-of_z (next_is c.args.x.now c.args.vectors.now c.args.found.now b place c.combined_entry.result c.quotient_of.result c.requires.some c.requires.leads c.index-vectors-found.is first c.combined_entry.ensures.value value')
+    simp to_z-of_z (next_is c.args.x.now c.args.vectors.now c.args.found.now b place c.combined_entry.result c.quotient_of.result
+    c.requires.some c.requires.leads c.index-vectors-found.is first c.combined_entry.ensures.value value')

@@ -12,4 +12,5 @@ returns c =
     let x : SFits w128 c.from.result = search rules in
     let u : SFits w128 c.from-2.result = search rules in
     let small : nat_abs c.args.a ≤ 2 ^ 63 = omega (arith, ints) in
-    simp to_z-of_z (divided_exact c.args.a c.args.b c.args.divisor c.from.result c.from-2.result (simp to_z-of_z at c.from.ensures) (simp to_z-of_z at c.from-2.ensures) small c.requires.small c.requires.positive)
+    simp to_z-of_z (divided_exact c.args.a c.args.b c.args.divisor c.from.result c.from-2.result (simp to_z-of_z at c.from.ensures)
+    (simp to_z-of_z at c.from-2.ensures) small c.requires.small c.requires.positive)

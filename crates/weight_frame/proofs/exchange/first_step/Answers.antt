@@ -7,8 +7,10 @@ use Rattle.weight_frame.proofs.exchange.first_step.Goals.{then-value-gt0, else-v
 
 pub returns-then-value-eq0 : goal.returns-then-value-eq0
 returns-then-value-eq0 c =
-    let zero : IsZeroVector (length c.args.u.now) c.zero_vector.result = rw (ap length c.entries.ensures.value) at c.zero_vector.ensures.zero in
-    first_keeps (length c.args.u.now) c.args.u.now c.args.value c.args.h.now c.zero_vector.result c.copied.result (zero_from c.args.value c.ranges.value c.if-value-eq0.true) c.copied.ensures c.requires.within zero c.zero_vector.ensures.within
+    let zero : IsZeroVector (length c.args.u.now) c.zero_vector.result =
+    rw (ap length c.entries.ensures.value) at c.zero_vector.ensures.zero in
+    first_keeps (length c.args.u.now) c.args.u.now c.args.value c.args.h.now c.zero_vector.result c.copied.result
+    (zero_from c.args.value c.ranges.value c.if-value-eq0.true) c.copied.ensures c.requires.within zero c.zero_vector.ensures.within
 
 pub returns : goal.returns
 returns c =
@@ -18,7 +20,11 @@ returns c =
     let divisor : c.unsigned_abs.result ≡ nat_abs v = simp to_z-of_z at c.unsigned_abs.ensures.value in
     elim c.if-value-gt0.branch [
       | then-value-gt0 w ↦
-          first_takes (length u) u v c.args.h.now c.if-value-gt0.last c.unsigned_abs.result (positive_from v (simp to_z-of_z at w.if-value-gt0.true)) (w.last-is ∙ w.copied-last.ensures) c.requires.value divisor c.requires.within
+          first_takes (length u) u v c.args.h.now c.if-value-gt0.last c.unsigned_abs.result
+          (positive_from v (simp to_z-of_z at w.if-value-gt0.true)) (w.last-is ∙ w.copied-last.ensures) c.requires.value divisor
+          c.requires.within
       | else-value-gt0 w ↦
-          first_turns (length u) u v c.args.h.now c.if-value-gt0.last c.unsigned_abs.result (negative_from v (simp to_z-of_z at w.if-value-gt0.false) c.if-value-eq0.false) (w.last-is ∙ w.opposite-last.ensures.value) c.requires.value divisor (rw w.last-is w.opposite-last.ensures.within)
+          first_turns (length u) u v c.args.h.now c.if-value-gt0.last c.unsigned_abs.result
+          (negative_from v (simp to_z-of_z at w.if-value-gt0.false) c.if-value-eq0.false) (w.last-is ∙ w.opposite-last.ensures.value)
+          c.requires.value divisor (rw w.last-is w.opposite-last.ensures.within)
     ]

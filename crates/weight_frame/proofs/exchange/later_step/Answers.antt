@@ -13,7 +13,8 @@ sum_of_multiples-requires-clause-second c =
     let v : SFits w64 c.args.value = c.ranges.value in
     let here : SFits w64 m.here = search rules in
     let second : SFits w128 m.second = search rules in
-    let are : AreLeastMultipliers c.args.value c.args.after m.divisor m.behind m.here m.first m.second = simp to_z-of_z at c.least_multipliers-multipliers.ensures in
+    let are : AreLeastMultipliers c.args.value c.args.after m.divisor m.behind m.here m.first m.second =
+    simp to_z-of_z at c.least_multipliers-multipliers.ensures in
     let small = multipliers_small c.args.value c.args.after m.divisor m.behind m.here m.first m.second c.requires.positive are in
     let size = c.requires.value in
     let turned : c.opposite_number.result ≡ neg_ℤ m.here = simp to_z-of_z at c.opposite_number.ensures in
@@ -28,7 +29,8 @@ sum_of_multiples-requires-2-clause-first c =
     let v : SFits w64 c.args.value = c.ranges.value in
     let here : SFits w64 m.here = search rules in
     let second : SFits w128 m.second = search rules in
-    let are : AreLeastMultipliers c.args.value c.args.after m.divisor m.behind m.here m.first m.second = simp to_z-of_z at c.least_multipliers-multipliers.ensures in
+    let are : AreLeastMultipliers c.args.value c.args.after m.divisor m.behind m.here m.first m.second =
+    simp to_z-of_z at c.least_multipliers-multipliers.ensures in
     let small = multipliers_small c.args.value c.args.after m.divisor m.behind m.here m.first m.second c.requires.positive are in
     let size = c.requires.value in
     let first : SFits w128 c.from-2.result = search rules in
@@ -41,7 +43,8 @@ sum_of_multiples-requires-2-clause-second c =
     let v : SFits w64 c.args.value = c.ranges.value in
     let here : SFits w64 m.here = search rules in
     let second : SFits w128 m.second = search rules in
-    let are : AreLeastMultipliers c.args.value c.args.after m.divisor m.behind m.here m.first m.second = simp to_z-of_z at c.least_multipliers-multipliers.ensures in
+    let are : AreLeastMultipliers c.args.value c.args.after m.divisor m.behind m.here m.first m.second =
+    simp to_z-of_z at c.least_multipliers-multipliers.ensures in
     let small = multipliers_small c.args.value c.args.after m.divisor m.behind m.here m.first m.second c.requires.positive are in
     let size = c.requires.value in
     let second_small = small.second in
@@ -53,12 +56,15 @@ returns-in-Err c =
     let v : SFits w64 c.args.value = c.ranges.value in
     let here : SFits w64 m.here = search rules in
     let second : SFits w128 m.second = search rules in
-    let are : AreLeastMultipliers c.args.value c.args.after m.divisor m.behind m.here m.first m.second = simp to_z-of_z at c.least_multipliers-multipliers.ensures in
+    let are : AreLeastMultipliers c.args.value c.args.after m.divisor m.behind m.here m.first m.second =
+    simp to_z-of_z at c.least_multipliers-multipliers.ensures in
     let turned : c.opposite_number.result ≡ neg_ℤ m.here = simp to_z-of_z at c.opposite_number.ensures in
     let opposite : SFits w128 c.opposite_number.result = search rules in
     let first : SFits w128 c.from.result = search rules in
-    let large : IsLargeSum (length c.args.u.now) c.from.result c.args.u.now c.opposite_number.result c.args.h.now c.in-Err.told = simp to_z-of_z at c.in-Err.ensures in
-    kept_above (length c.args.u.now) c.args.u.now c.args.value c.args.h.now c.args.after m.divisor m.behind m.here m.first m.second c.in-Err.told refl (sym c.requires.same) c.requires.positive are (rw (c.from.ensures, turned) at large)
+    let large : IsLargeSum (length c.args.u.now) c.from.result c.args.u.now c.opposite_number.result c.args.h.now c.in-Err.told =
+    simp to_z-of_z at c.in-Err.ensures in
+    kept_above (length c.args.u.now) c.args.u.now c.args.value c.args.h.now c.args.after m.divisor m.behind m.here m.first m.second
+    c.in-Err.told refl (sym c.requires.same) c.requires.positive are (rw (c.from.ensures, turned) at large)
 
 pub returns-in-Err-sum_of_multiples : goal.returns-in-Err-sum_of_multiples
 returns-in-Err-sum_of_multiples c =
@@ -66,14 +72,19 @@ returns-in-Err-sum_of_multiples c =
     let v : SFits w64 c.args.value = c.ranges.value in
     let here : SFits w64 m.here = search rules in
     let second : SFits w128 m.second = search rules in
-    let are : AreLeastMultipliers c.args.value c.args.after m.divisor m.behind m.here m.first m.second = simp to_z-of_z at c.least_multipliers-multipliers.ensures in
+    let are : AreLeastMultipliers c.args.value c.args.after m.divisor m.behind m.here m.first m.second =
+    simp to_z-of_z at c.least_multipliers-multipliers.ensures in
     let turned : c.opposite_number.result ≡ neg_ℤ m.here = simp to_z-of_z at c.opposite_number.ensures in
     let opposite : SFits w128 c.opposite_number.result = search rules in
     let first : SFits w128 c.from.result = search rules in
     let later : SFits w128 c.from-2.result = search rules in
-    let kept : IsSmallSum (length c.args.u.now) c.from.result c.args.u.now c.opposite_number.result c.args.h.now c.in-Ok.kept = simp to_z-of_z at c.in-Ok.ensures in
-    let large : IsLargeSum (length c.args.u.now) c.from-2.result c.args.u.now m.second c.args.h.now c.in-Err-sum_of_multiples.told = simp to_z-of_z at c.in-Err-sum_of_multiples.ensures in
-    last_above (length c.args.u.now) c.args.u.now c.args.value c.args.h.now c.args.after m.divisor m.behind m.here m.first m.second c.in-Ok.kept c.in-Err-sum_of_multiples.told c.requires.positive are (rw (c.from.ensures, turned) at kept) (rw c.from-2.ensures at large)
+    let kept : IsSmallSum (length c.args.u.now) c.from.result c.args.u.now c.opposite_number.result c.args.h.now c.in-Ok.kept =
+    simp to_z-of_z at c.in-Ok.ensures in
+    let large : IsLargeSum (length c.args.u.now) c.from-2.result c.args.u.now m.second c.args.h.now c.in-Err-sum_of_multiples.told =
+    simp to_z-of_z at c.in-Err-sum_of_multiples.ensures in
+    last_above (length c.args.u.now) c.args.u.now c.args.value c.args.h.now c.args.after m.divisor m.behind m.here m.first m.second
+    c.in-Ok.kept c.in-Err-sum_of_multiples.told c.requires.positive are (rw (c.from.ensures, turned) at kept)
+    (rw c.from-2.ensures at large)
 
 pub returns : goal.returns
 returns c =
@@ -81,11 +92,16 @@ returns c =
     let v : SFits w64 c.args.value = c.ranges.value in
     let here : SFits w64 m.here = search rules in
     let second : SFits w128 m.second = search rules in
-    let are : AreLeastMultipliers c.args.value c.args.after m.divisor m.behind m.here m.first m.second = simp to_z-of_z at c.least_multipliers-multipliers.ensures in
+    let are : AreLeastMultipliers c.args.value c.args.after m.divisor m.behind m.here m.first m.second =
+    simp to_z-of_z at c.least_multipliers-multipliers.ensures in
     let turned : c.opposite_number.result ≡ neg_ℤ m.here = simp to_z-of_z at c.opposite_number.ensures in
     let opposite : SFits w128 c.opposite_number.result = search rules in
     let first : SFits w128 c.from.result = search rules in
     let later : SFits w128 c.from-2.result = search rules in
-    let kept : IsSmallSum (length c.args.u.now) c.from.result c.args.u.now c.opposite_number.result c.args.h.now c.in-Ok.kept = simp to_z-of_z at c.in-Ok.ensures in
-    let last : IsSmallSum (length c.args.u.now) c.from-2.result c.args.u.now m.second c.args.h.now c.in-Ok-sum_of_multiples.last = simp to_z-of_z at c.in-Ok-sum_of_multiples.ensures in
-    later_made (length c.args.u.now) c.args.u.now c.args.value c.args.h.now c.args.after m.divisor m.behind m.here m.first m.second c.in-Ok.kept c.in-Ok-sum_of_multiples.last c.requires.positive c.requires.small are (rw (c.from.ensures, turned) at kept) (rw c.from-2.ensures at last)
+    let kept : IsSmallSum (length c.args.u.now) c.from.result c.args.u.now c.opposite_number.result c.args.h.now c.in-Ok.kept =
+    simp to_z-of_z at c.in-Ok.ensures in
+    let last : IsSmallSum (length c.args.u.now) c.from-2.result c.args.u.now m.second c.args.h.now c.in-Ok-sum_of_multiples.last =
+    simp to_z-of_z at c.in-Ok-sum_of_multiples.ensures in
+    later_made (length c.args.u.now) c.args.u.now c.args.value c.args.h.now c.args.after m.divisor m.behind m.here m.first m.second
+    c.in-Ok.kept c.in-Ok-sum_of_multiples.last c.requires.positive c.requires.small are (rw (c.from.ensures, turned) at kept)
+    (rw c.from-2.ensures at last)

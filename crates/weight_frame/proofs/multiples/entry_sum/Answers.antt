@@ -15,5 +15,10 @@ returns-clause-value c =
     let second = simp to_z-of_z at c.product-2.ensures.value in
     let left : SFits w128 c.product.result = small_fits _ (omega (arith, c.product.ensures.bound)) in
     let right : SFits w128 c.product-2.result = small_fits _ (omega (arith, c.product-2.ensures.bound)) in
-    let whole : SFits w128 (c.product.result +ℤ c.product-2.result) = small_fits _ (omega (arith, sum_bound c.product.result c.product-2.result (2 ^ 95) (2 ^ 95) c.product.ensures.bound c.product-2.ensures.bound)) in
+    let whole : SFits w128 (c.product.result +ℤ c.product-2.result) =
+    small_fits _ (omega (
+      arith,
+      sum_bound c.product.result c.product-2.result (2 ^ 95) (2 ^ 95) c.product.ensures.bound
+          c.product-2.ensures.bound,
+    )) in
     simp to_z-of_z (ap₂ (λ x y. x +ℤ y) first second)

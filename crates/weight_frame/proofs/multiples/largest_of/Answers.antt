@@ -12,7 +12,8 @@ loop-entry-preserved c =
     let i = c.loop-entry.entry-index in
     let fits : SFits w128 (entry x i) = search rules in
     let abs : c.unsigned_abs.result ≡ nat_abs (entry x i) = simp to_z-of_z at c.unsigned_abs.ensures.value in
-    let next : c.max-most.result ≡ max c.loop-entry.most c.unsigned_abs.result = c.max-most.ensures ∙ larger c.loop-entry.most c.unsigned_abs.result in
+    let next : c.max-most.result ≡ max c.loop-entry.most c.unsigned_abs.result =
+    c.max-most.ensures ∙ larger c.loop-entry.most c.unsigned_abs.result in
     largest_more x i c.loop-entry.most c.max-most.result (omega arith) (next ∙ ap (λ n. max c.loop-entry.most n) abs) c.loop-entry.invariant
 
 pub returns : goal.returns

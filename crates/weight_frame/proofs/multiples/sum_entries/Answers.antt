@@ -28,11 +28,16 @@ loop-i-preserved c =
     let value = simp to_z-of_z at c.entry_sum.ensures.value in
     let items = simp to_z-of_z at c.push.ensures.items in
     let before = simp to_z-of_z at c.loop-i.invariant in
-    simp to_z-of_z (sums_more c.args.p c.args.x.now c.args.q c.args.y.now c.loop-i.entries.items c.push.new.self.items c.loop-i.i c.entry_sum.result before items value c.entry_sum.ensures.bound)
+    simp to_z-of_z (sums_more c.args.p c.args.x.now c.args.q c.args.y.now c.loop-i.entries.items c.push.new.self.items c.loop-i.i
+    c.entry_sum.result before items value c.entry_sum.ensures.bound)
 
 pub returns : goal.returns
 returns c =
     let p : SFits w128 c.args.p = search rules in
     let q : SFits w128 c.args.q = search rules in
     let made = simp to_z-of_z at c.loop-i.invariant in
-    record { sum = sums_all c.args.p c.args.x.now c.args.q c.args.y.now c.loop-i.entries.items c.loop-i.i made (omega arith) c.requires.same; bound = made.small }
+    record {
+      sum = sums_all c.args.p c.args.x.now c.args.q c.args.y.now c.loop-i.entries.items c.loop-i.i made
+          (omega arith) c.requires.same;
+      bound = made.small;
+    }

@@ -5,20 +5,27 @@ use Rattle.weight_frame.proofs.Euclid.{multipliers_found, found_positive, found_
 use Rattle.weight_frame.proofs.multipliers.least_multipliers.Goals as goal
 
 pub nonzero_div-behind : goal.nonzero_div-behind
-nonzero_div-behind c = (found_positive c.rest_of.result c.args.after c.euclid-found.result.divisor c.euclid-found.result.multiplier c.requires.positive c.euclid-found.ensures).0
+nonzero_div-behind c = (found_positive c.rest_of.result c.args.after c.euclid-found.result.divisor c.euclid-found.result.multiplier
+    c.requires.positive c.euclid-found.ensures).0
 
 pub rest_of-first-requires-clause-positive : goal.rest_of-first-requires-clause-positive
-rest_of-first-requires-clause-positive c = found_part c.rest_of.result c.args.after c.euclid-found.result.divisor c.euclid-found.result.multiplier c.requires.positive c.euclid-found.ensures
+rest_of-first-requires-clause-positive c =
+    found_part c.rest_of.result c.args.after c.euclid-found.result.divisor c.euclid-found.result.multiplier c.requires.positive
+    c.euclid-found.ensures
 
 pub quotient-requires : goal.quotient-requires
-quotient-requires c = let d = found_positive c.rest_of.result c.args.after c.euclid-found.result.divisor c.euclid-found.result.multiplier c.requires.positive c.euclid-found.ensures in record { positive = d.0; small = omega arith }
+quotient-requires c = let d = found_positive c.rest_of.result c.args.after c.euclid-found.result.divisor c.euclid-found.result.multiplier
+    c.requires.positive c.euclid-found.ensures in record { positive = d.0; small = omega arith }
 
 pub second_multiplier-requires-clause-divisor : goal.second_multiplier-requires-clause-divisor
-second_multiplier-requires-clause-divisor c = let d = found_positive c.rest_of.result c.args.after c.euclid-found.result.divisor c.euclid-found.result.multiplier c.requires.positive c.euclid-found.ensures in omega arith
+second_multiplier-requires-clause-divisor c = let d =
+    found_positive c.rest_of.result c.args.after c.euclid-found.result.divisor c.euclid-found.result.multiplier c.requires.positive
+    c.euclid-found.ensures in omega arith
 
 pub second_multiplier-requires-clause-first : goal.second_multiplier-requires-clause-first
 second_multiplier-requires-clause-first c =
-    let h = found_first c.rest_of.result c.args.after c.euclid-found.result.divisor c.euclid-found.result.multiplier c.rest_of-first.result c.requires.positive c.euclid-found.ensures c.rest_of-first.ensures.below in
+    let h = found_first c.rest_of.result c.args.after c.euclid-found.result.divisor c.euclid-found.result.multiplier c.rest_of-first.result
+    c.requires.positive c.euclid-found.ensures c.rest_of-first.ensures.below in
     omega arith
 
 pub returns : goal.returns
@@ -31,4 +38,6 @@ returns c =
     let first = simp to_z-of_z at c.rest_of-first.ensures.value in
     let here = simp to_z-of_z at c.quotient.ensures in
     let second = simp to_z-of_z at c.second_multiplier.ensures in
-    simp to_z-of_z (rw (here, second) (multipliers_found c.args.value c.rest_of.result c.args.after c.euclid-found.result.divisor c.euclid-found.result.multiplier c.rest_of-first.result c.requires.positive rest c.euclid-found.ensures first c.rest_of-first.ensures.below))
+    simp to_z-of_z (rw (here, second) (multipliers_found c.args.value c.rest_of.result c.args.after c.euclid-found.result.divisor
+    c.euclid-found.result.multiplier c.rest_of-first.result c.requires.positive rest c.euclid-found.ensures first
+    c.rest_of-first.ensures.below))

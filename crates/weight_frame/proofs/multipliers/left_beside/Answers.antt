@@ -14,5 +14,6 @@ returns c =
     c.from.ensures c.from-2.ensures (simp to_z-of_z at c.from-3.ensures) (omega arith) (omega arith) (omega arith) in
     record {
       left = simp to_z-of_z left;
-      bound = simp to_z-of_z (rw left (left_small (pos c.args.divisor) (pos c.args.first) c.args.value (omega arith) (omega arith) (omega arith)));
+      bound = simp to_z-of_z (rw left (left_small (pos c.args.divisor) (pos c.args.first) c.args.value (omega arith) (omega arith)
+          (omega arith)));
     }

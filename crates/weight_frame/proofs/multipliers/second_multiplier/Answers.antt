@@ -9,4 +9,5 @@ returns c =
     let v : SFits w64 c.args.value = c.ranges.value in
     let u : SFits w128 c.from.result = search rules in
     let left : SFits w128 c.left_beside.result = search rules in
-    simp to_z-of_z (second_exact c.left_beside.result _ (pos c.args.after) c.from.result (simp to_z-of_z at c.left_beside.ensures.left) c.from.ensures left (omega (arith, ints)))
+    simp to_z-of_z (second_exact c.left_beside.result _ (pos c.args.after) c.from.result (simp to_z-of_z at c.left_beside.ensures.left)
+    c.from.ensures left (omega (arith, ints)))

@@ -23,10 +23,15 @@ loop-entry-preserved c =
     let fits : SFits w64 (entry x i) = search rules in
     let turned : SFits w64 (pos 0 -ℤ entry x i) = opposite_fits x i small in
     let items = simp to_z-of_z at c.push.ensures.items in
-    record { length = omega arith; items = opposite_more x c.loop-entry.entries.items c.push.new.self.items i (pos 0 -ℤ entry x i) (omega arith) refl items c.loop-entry.invariant.items }
+    record {
+      length = omega arith;
+      items = opposite_more x c.loop-entry.entries.items c.push.new.self.items i (pos 0 -ℤ entry x i)
+          (omega arith) refl items c.loop-entry.invariant.items;
+    }
 
 pub returns : goal.returns
 returns c =
     let x = c.entries-entry-items.result.now in
-    let value = c.new.ensures ∙ c.loop-entry.invariant.items ∙ ap (λ y. scaled (negsuc 0) y) (take_all c.loop-entry.entry-index x (omega arith) ∙ c.entries-entry-items.ensures.value) in
+    let value = c.new.ensures ∙ c.loop-entry.invariant.items ∙ ap (λ y. scaled (negsuc 0) y)
+    (take_all c.loop-entry.entry-index x (omega arith) ∙ c.entries-entry-items.ensures.value) in
     record { value = value; within = rw (value, largest_opposite c.args.x.now) c.requires }

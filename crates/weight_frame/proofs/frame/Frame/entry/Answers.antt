@@ -22,7 +22,8 @@ bounds-entries-i c =
     let within : c.args.j < length held = rw vectors c.requires.vector in
     let is : u ≡ get_or held c.args.j u = c.index-deref-j.is ∙ ap (λ vs. get_or vs c.args.j u) c.deref.ensures.0 in
     let at = vector_at n held c.args.j u small within is in
-    let long : length c.entries.result.now ≡ columns_of c.args.self.now.systems = ap length c.entries.ensures.value ∙ at.dimension ∙ columns in
+    let long : length c.entries.result.now ≡ columns_of c.args.self.now.systems = ap length c.entries.ensures.value ∙ at.dimension
+    ∙ columns in
     rw long c.requires.place
 
 pub returns-clause-bound : goal.returns-clause-bound
@@ -37,7 +38,8 @@ returns-clause-bound c =
     let is : u ≡ get_or held c.args.j u = c.index-deref-j.is ∙ ap (λ vs. get_or vs c.args.j u) c.deref.ensures.0 in
     let at = vector_at n held c.args.j u small within is in
     let columns : n ≡ columns_of c.args.self.now.systems = ap (λ (f : Framed). columns_of f.systems) c.self.view_is in
-    let long : length c.entries.result.now ≡ columns_of c.args.self.now.systems = ap length c.entries.ensures.value ∙ at.dimension ∙ columns in
+    let long : length c.entries.result.now ≡ columns_of c.args.self.now.systems = ap length c.entries.ensures.value ∙ at.dimension
+    ∙ columns in
     let place : c.args.i < length c.entries.result.now = rw long c.requires.place in
     let fits : SFits w64 (entry c.entries.result.now c.args.i) = search rules in
     let told : SFits w128 c.from.result = search rules in

@@ -15,7 +15,8 @@ combine-requires c =
     let columns : n ≡ columns_of c.args.self.now.systems = ap (λ (f : Framed). columns_of f.systems) c.self.view_is in
     let small = frame_small (weighted_all inside.systems.items) held c.self.invariant.is_frame in
     let same : c.as_slice.result.now ≡ held = c.as_slice.ensures.value in
-    let count : length c.entries.result.now ≡ length c.as_slice.result.now = ap length c.entries.ensures.value ∙ c.requires.dimension ∙ ap length (sym vectors ∙ sym same) in
+    let count : length c.entries.result.now ≡ length c.as_slice.result.now = ap length c.entries.ensures.value ∙ c.requires.dimension
+    ∙ ap length (sym vectors ∙ sym same) in
     let most : length c.as_slice.result.now ≤ 6 = rw same c.self.invariant.most in
     record {
       count = omega arith;
@@ -27,4 +28,5 @@ combine-requires c =
 pub returns : goal.returns
 returns c =
     let vectors = ap (λ (f : Framed). f.vectors) c.self.view_is in
-    combination_in _ _ _ _ _ _ c.combine.new.out c.requires.columns c.entries.ensures.value (c.as_slice.ensures.value ∙ vectors) c.combine.ensures
+    combination_in _ _ _ _ _ _ c.combine.new.out c.requires.columns c.entries.ensures.value (c.as_slice.ensures.value ∙ vectors)
+    c.combine.ensures
