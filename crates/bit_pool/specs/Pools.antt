@@ -86,7 +86,7 @@ pub record IsFull (pool : PoolState) (told : ℕ) : Type 0 where
   pub all : length pool.young_generation.rows ≡ pool.young_generation.reserved
   pub told_is : told ≡ pool.young_generation.reserved
 
--- a generation without rows, of another epoch
+-- a generation without rows, with the room of the one before
 abbrev pub IsEmptied : GenerationState → GenerationState → Type 0
 IsEmptied before now = (now.rows ≡ []) × (now.reserved ≡ before.reserved)
 

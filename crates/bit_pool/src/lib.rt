@@ -1,4 +1,5 @@
 //! A pool of rows of bits: sets of numbers below a width, which are pushed, met and asked of without memory. It stands on no other crate.
+//! Its central theorem: an id names its row as long as its generation lives, and never another row.
 #![tactic(auto)]
 
 mod bits;
