@@ -1,6 +1,6 @@
-//! Points and affine functions with numbers of fixed width, their exact values, their orders, and the faults and limits that the crates above
-//! share. It stands on `lattice_theory`, whose definitions its contracts cite, on `elimination` and `normal_bounds`,
-//! whose bounds keep `combine` small, and on the kit's `arrayvec`.
+//! Points and affine functions with numbers of fixed width, their exact values, their orders, and the faults and limits that the
+//! crates above share. It stands on `lattice_theory`, whose definitions its contracts cite, on `normal_bounds`, whose bounds keep
+//! `combine` small, and on the kit's `arrayvec`.
 //! Its central theorem: within the stated sizes no operation overflows, and each answers the exact integer of the definition.
 #![tactic(auto)]
 
