@@ -1,5 +1,5 @@
--- One step of elimination: the pivot leaves, and the pivot's line is taken out of every other member. The kernel of one more vector is
--- left.
+-- One step of elimination: the pivot leaves, and the pivot's line is
+-- taken out of every other member. The kernel of one more vector is left.
 use Rattle.std.proofs.Common.{◌≡◌, ◌≢◌, ℕ, suc, ◌<◌, ◌≤◌, List, [], ◌∷◌, ◌++◌, length, ℤ, pos, ◌+ℤ◌, ◌-ℤ◌, ◌*ℤ◌, ◌<ℤ◌, ◌⊎◌, ⊎_elim, refl, sym, ap, ◌∙◌, arith}
 use Rattle.lattice_theory.specs.Vector.{entry, dot}
 use Rattle.elimination.specs.Elimination.{Member, pairings, IsCombination}

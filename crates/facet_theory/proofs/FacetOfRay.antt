@@ -112,8 +112,8 @@ constant_zero c d e e' = omega (arith, ints)
 constant_divided : (c d k x : ℤ) → c *ℤ pos 1 +ℤ d ≡ pos 0 → d ≡ k *ℤ x → c ≡ k *ℤ neg_ℤ x
 constant_divided c d k x e e' = simp *ℤ-neg (omega (arith, linear, *ℤ-one c))
 
--- each ray is a positive multiple of a facet: divide by the gcd of the normal, which divides the constant too, since the ray is 0 at a
--- point
+-- each ray is a positive multiple of a facet: divide by the gcd of the
+-- normal, which divides the constant too, since the ray is 0 at a point
 pub facet_of_ray : (n : ℕ) (points : List (List ℤ)) → 0 < n → (r : List ℤ) → IsRay (suc n) (lifted points) r → FacetOf n points r
 facet_of_ray n points pos_n [] h = absurd (omega (arith, h.long))
 facet_of_ray n points pos_n (c ∷ a) h = by (ray_zero n (lifted points) (c ∷ a) pos_n h)

@@ -11,8 +11,8 @@ use Rattle.facet_theory.proofs.Smallest.{Smallest, Spread, find_spread, smallest
 use Rattle.facet_theory.proofs.Coordinates.{above_low, length-above_low, above_low-value}
 use Rattle.facet_theory.proofs.Signs.{nonnegative_same}
 
--- a point at which f is least, and a nonnegative function that is 0 there and else only at points with the same value of f and the same
--- first k entries
+-- a point at which f is least, and a nonnegative function that is 0 there and
+-- else only at points with the same value of f and the same first k entries
 pub record Peak (n : ℕ) (points : List (List ℤ)) (f : Affine) (k : ℕ) : Type 0 where
   pub place : List ℤ
   pub inside : In place points

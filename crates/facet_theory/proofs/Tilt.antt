@@ -1,5 +1,5 @@
--- From a function f that is nonnegative on S and a function h that is 0 along f: a function a f - b h that is nonnegative too, and 0 at
--- more vectors.
+-- From a function f that is nonnegative on S and a function h that is 0 along
+-- f: a function a f - b h that is nonnegative too, and 0 at more vectors.
 use Rattle.std.proofs.Common.{◌≡◌, ◌≢◌, ℕ, ◌<◌, List, [], ◌∷◌, length, ℤ, pos, ◌+ℤ◌, ◌-ℤ◌, ◌*ℤ◌, neg_ℤ, ◌≤ℤ◌, ◌<ℤ◌, ◌⊎◌, inl, inr, sym, ap, ◌∙◌, arith}
 use Rattle.lattice_theory.specs.Vector.{dot, scaled}
 use Rattle.lattice_theory.proofs.Integers.{products_out, linear, positive_or_not, negative_or_not, product_nonnegative, product_positive, nonnegative_factor, positive_nonzero, zero_terms}

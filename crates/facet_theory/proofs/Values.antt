@@ -1,5 +1,5 @@
--- The values of a linear function, a vector f, at the vectors of a list S: where they are nonnegative, where they are 0, and at how many
--- they aren't.
+-- The values of a linear function, a vector f, at the vectors of a list S:
+-- where they are nonnegative, where they are 0, and at how many they aren't.
 use Rattle.std.proofs.Common.{◌≡◌, ◌≢◌, ℕ, zero, suc, ◌+◌, ◌<◌, ◌≤◌, List, [], ◌∷◌, length, ℤ, pos, negsuc, ◌+ℤ◌, ◌*ℤ◌, ◌≤ℤ◌, ◌⊎◌, inl, inr, refl, arith}
 use Rattle.lattice_theory.specs.Vector.{dot}
 use Rattle.lattice_theory.proofs.Integers.{products_out, linear, zero_or_not}

@@ -3,8 +3,8 @@ use Rattle.std.specs.Prelude.{ℕ, ◌≤◌, List, ℤ}
 use Rattle.lattice_theory.specs.Size.{size}
 use Rattle.normal_bounds.specs.Bounds.{safe_size}
 
--- the largest size that points with n coordinates may have, for n from 1 to 6: the one up to which all numbers fit. There is none for
--- another n.
+-- the largest size that points with n coordinates may have, for n from 1
+-- to 6: the one up to which all numbers fit. There is none for another n.
 abbrev pub size_limit_of : ℕ → ℕ
 size_limit_of n = safe_size n
 

@@ -1,6 +1,5 @@
--- The facets of points (math/0204356, section 2: a polytope is an intersection of half spaces). Flat lists of points, their functions, and
--- lists
--- of facets are this project's own.
+-- The facets of points (math/0204356, section 2: a polytope is an intersection of half
+-- spaces). Flat lists of points, their functions, and lists of facets are this project's own.
 use Rattle.std.specs.Prelude.{◌≡◌, ◌↔◌, ℕ, ◌≤◌, List, length, ℤ, pos, ◌<ℤ◌}
 use Rattle.std.specs.List.{Contains}
 use Rattle.lattice_theory.specs.Vector.{entry, IsPrimitive, EndsAt}

@@ -1,6 +1,5 @@
--- Integer vectors, the points of the lattice Z^n (math/0204356, section 2). A vector is the list of its entries; an entry that is missing
--- reads as 0.
--- `IsPrimitive`, `IsUnitVector`, `IsVectorMultiple`, `EndsAt` and the tests of sameness are this project's own.
+-- Integer vectors, the points of the lattice Z^n (math/0204356, section 2). A vector is the list of its entries; an entry that is
+-- missing reads as 0. `IsPrimitive`, `IsUnitVector`, `IsVectorMultiple`, `EndsAt` and the tests of sameness are this project's own.
 use Rattle.std.specs.Prelude.{◌≡◌, ◌≢◌, ℕ, ◌<◌, Bool, false, true, not, ◌&&◌, ◌==◌, List, [], ◌∷◌, length, map, ℤ, pos, negsuc, ◌+ℤ◌, ◌*ℤ◌, slice_index_or}
 use Rattle.std.specs.List.{All, filter}
 

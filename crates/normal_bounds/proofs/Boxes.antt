@@ -1,5 +1,5 @@
--- Boxes of vectors: at a free place the entries 0 to M, at a fixed place the entry 0. A box with j free places has (M + 1)^j members, all
--- different.
+-- Boxes of vectors: at a free place the entries 0 to M, at a fixed place the
+-- entry 0. A box with j free places has (M + 1)^j members, all different.
 use Rattle.std.proofs.Common.{◌≡◌, ◌≢◌, ℕ, zero, suc, ◌*◌, ◌^◌, ◌<◌, ◌≤◌, List, [], ◌∷◌, ◌++◌, length, map, Bool, true, false, ℤ, pos, sym, ap, ◌∙◌, arith}
 use Rattle.std.proofs.lemmas.List.{length-append, length-map}
 use Rattle.std.proofs.lemmas.Int.{ints}

@@ -1,5 +1,5 @@
--- A worked example: the points (2, 0) and (-1, 1) of the plane have absolute sum 2 and fix the function x + 3y - 2. Its entries 1 and 3 are
--- at most 4.
+-- A worked example: the points (2, 0) and (-1, 1) of the plane have absolute
+-- sum 2 and fix the function x + 3y - 2. Its entries 1 and 3 are at most 4.
 use Rattle.std.proofs.Common.{◌≡◌, zero, suc, ◌≤◌, List, [], ◌∷◌, length, ℤ, pos, negsuc, ◌+ℤ◌, ◌*ℤ◌, nat_abs, refl, ap₂, arith}
 use Rattle.std.proofs.lemmas.Int.{ints}
 use Rattle.std.proofs.lemmas.List.Elements.{All-nil, All-cons, All-head, All-tail}

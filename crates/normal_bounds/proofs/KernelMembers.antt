@@ -1,5 +1,5 @@
--- The bound on the members of a kernel: a member is no larger than a vector that pairs to 0 with the pivots and is 0 at the own places of
--- the others.
+-- The bound on the members of a kernel: a member is no larger than a vector
+-- that pairs to 0 with the pivots and is 0 at the own places of the others.
 use Rattle.std.proofs.Common.{◌≡◌, ℕ, zero, suc, ◌+◌, ◌^◌, ◌<◌, ◌≤◌, List, [], ◌∷◌, ◌++◌, length, Bool, true, false, ℤ, pos, nat_abs, refl, sym, ap, ◌∙◌, subst, All, arith}
 use Rattle.std.proofs.lemmas.List.{length-append}
 use Rattle.std.proofs.Math.Nat.{mul-le-mul_left, pow-suc}

@@ -1,5 +1,5 @@
--- The pigeonhole principle for a shrinking list: of more than N c members, on which a function has at most N values, more than c have the
--- same value.
+-- The pigeonhole principle for a shrinking list: of more than N c members,
+-- on which a function has at most N values, more than c have the same value.
 use Rattle.std.proofs.Common.{◌≡◌, ◌≢◌, ℕ, zero, suc, ◌+◌, ◌*◌, ◌<◌, ◌≤◌, List, [], ◌∷◌, length, ℤ, pos, ◌+ℤ◌, ◌-ℤ◌, ◌⊎◌, inl, inr, ⊎_elim, refl, ap, arith}
 use Rattle.std.proofs.lemmas.Bool.{cases_lt}
 use Rattle.lattice_theory.proofs.Integers.{linear, zero_or_not}

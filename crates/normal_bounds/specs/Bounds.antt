@@ -1,6 +1,5 @@
--- Bounds on the entries of vectors, functions that are fixed by the points on which they vanish, and the sizes for which numbers below
--- 2^127
--- are promised. This project's own.
+-- Bounds on the entries of vectors, functions that are fixed by the points on which they
+-- vanish, and the sizes for which numbers below 2^127 are promised. This project's own.
 use Rattle.std.specs.Prelude.{◌≡◌, ℕ, zero, suc, ◌≤◌, List, length, ℤ, nat_abs}
 use Rattle.lattice_theory.specs.Vector.{entry, IsPrimitive}
 use Rattle.lattice_theory.specs.Affine.{Affine, Vanishes, IsMultiple}
@@ -9,8 +8,8 @@ use Rattle.lattice_theory.specs.Affine.{Affine, Vanishes, IsMultiple}
 abbrev pub EntriesWithin : ℕ → List ℤ → Type 0
 EntriesWithin bound x = (i : ℕ) → nat_abs (entry x i) ≤ bound
 
--- f is fixed by points of dimension n: it vanishes on them, its normal has gcd 1, and each function that vanishes on them is a multiple of
--- it
+-- f is fixed by points of dimension n: it vanishes on them, its normal
+-- has gcd 1, and each function that vanishes on them is a multiple of it
 pub record IsFixedBy (n : ℕ) (points : List (List ℤ)) (f : Affine) : Type 0 where
   pub dimension : length f.normal ≡ n
   pub primitive : IsPrimitive f.normal

@@ -12,9 +12,8 @@ abbrev pub CountingBound : Type 0
 CountingBound = (k T : ℕ) (vectors : List (List ℤ)) → 1 ≤ T → length vectors ≡ k → All (λ w. absolute_sum w ≤ T) vectors
     → (x : List ℤ) × (length x ≡ suc k) × (All (λ a. a ≡ pos 0) x → ⊥) × Annihilates vectors x × EntriesWithin (T ^ k) x
 
--- a function of k + 1 coordinates that is fixed by k + 1 points of absolute sum at most S has normal entries of at most (2S)^k, a constant
--- of at most
--- (2S)^k S, and values of at most (2S)^(k+1) at points of absolute sum at most S
+-- a function of k + 1 coordinates that is fixed by k + 1 points of absolute sum at most S has normal entries of at
+-- most (2S)^k, a constant of at most (2S)^k S, and values of at most (2S)^(k+1) at points of absolute sum at most S
 abbrev pub NormalBound : Type 0
 NormalBound = (k S : ℕ) (points : List (List ℤ)) (f : Affine) → 1 ≤ S → length points ≡ suc k → HaveDimension (suc k) points
     → All (λ p. absolute_sum p ≤ S) points → IsFixedBy (suc k) points f
@@ -42,15 +41,13 @@ PointAbsoluteSum = (n : ℕ) (points : List (List ℤ)) → HaveDimension n poin
 abbrev pub DifferenceAbsoluteSum : Type 0
 DifferenceAbsoluteSum = (p q w : List ℤ) → ((i : ℕ) → entry w i ≡ entry p i -ℤ entry q i) → absolute_sum w ≤ absolute_sum p + absolute_sum q
 
--- up to the safe size of n coordinates, at most n - 1 factors 2S are below 2^63. So after j pivots that are differences of points, the
--- entries of
--- members are below 2^63 where j is less than n, and their values at differences where j + 1 is.
+-- up to the safe size of n coordinates, at most n - 1 factors 2S are below 2^63. So after j pivots that are differences of
+-- points, the entries of members are below 2^63 where j is less than n, and their values at differences where j + 1 is.
 abbrev pub EntriesFit : Type 0
 EntriesFit = (n j S : ℕ) → j + 1 ≤ n → S ≤ safe_size n → (2 * S) ^ j < 2 ^ 63
 
--- while two members are left, which is after at most n - 2 pivots, the two products of a step, each of an entry and a value, together are
--- below
--- 2^127
+-- while two members are left, which is after at most n - 2 pivots, the two
+-- products of a step, each of an entry and a value, together are below 2^127
 abbrev pub StepFits : Type 0
 StepFits = (n j S : ℕ) → j + 2 ≤ n → S ≤ safe_size n → 2 * ((2 * S) ^ j * (2 * S) ^ (j + 1)) < 2 ^ 127
 
