@@ -12,4 +12,4 @@ pub mod bounds;
 mod examples;
 pub mod fits;
 
-pub use examples::two_points_are_an_example;
+pub use examples::{safe_sizes_are_an_example, two_points_are_an_example};
