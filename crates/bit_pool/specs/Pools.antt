@@ -3,6 +3,7 @@ use Rattle.std.specs.Prelude.{◌≡◌, ◌⊎◌, ℕ, Result, Ok, Err, ◌+�
 use Rattle.std.specs.List.{All}
 use Rattle.bit_pool.specs.Bits.{IsRow, IsMeet}
 use Rattle.bit_pool.specs.declared.faults.RowId.{RowId}
+use Rattle.bit_pool.specs.declared.limits.TheConstants.{MOST_WIDTH}
 use Rattle.bit_pool.specs.declared.faults.Stale.{Stale}
 use Rattle.bit_pool.specs.declared.faults.Full.{Full}
 use Rattle.bit_pool.specs.declared.faults.NoMemory.{NoMemory}
@@ -30,7 +31,7 @@ pub record IsGeneration (width : ℕ) (generation : GenerationState) : Type 0 wh
 -- what holds of every pool
 pub record IsPool (pool : PoolState) : Type 0 where
   pub some : 1 ≤ pool.width
-  pub most : pool.width ≤ 4_096
+  pub most : pool.width ≤ MOST_WIDTH
   pub old : IsGeneration pool.width pool.old_generation
   pub young : IsGeneration pool.width pool.young_generation
   pub ages : pool.old_generation.epoch < pool.young_generation.epoch

@@ -1,8 +1,9 @@
 -- Rows that are kept word after word. This project's own.
-use Rattle.std.specs.Prelude.{◌≡◌, ℕ, zero, suc, ◌+◌, ◌*◌, ◌^◌, ◌≤◌, List, [], ◌∷◌, length, take, drop}
+use Rattle.std.specs.Prelude.{◌≡◌, ℕ, zero, suc, ◌+◌, ◌*◌, ◌≤◌, List, [], ◌∷◌, length, take, drop}
 use Rattle.bit_pool.specs.Bits.{words_for, IsRow, IsMeet}
 use Rattle.bit_pool.specs.Pools.{GenerationState, PoolState, IsPool, OnRow}
 use Rattle.bit_pool.specs.declared.faults.RowId.{RowId}
+use Rattle.bit_pool.specs.declared.limits.TheConstants.{MOST_ROWS, MOST_TURNS}
 
 -- the first rows of some words, each of so many words
 abbrev pub rows_in : ℕ → ℕ → List ℕ → List (List ℕ)
@@ -43,11 +44,11 @@ pool_of width reserved turns old young = record {
 -- what holds of a pool that is kept so: there is room for all rows, and the epochs don't outrun the turns
 pub record IsStored (width reserved turns : ℕ) (old young : Kept) : Type 0 where
   pub pool : IsPool (pool_of width reserved turns old young)
-  pub few : reserved ≤ 2 ^ 24
+  pub few : reserved ≤ MOST_ROWS
   pub old_room : HasRoom width reserved old
   pub young_room : HasRoom width reserved young
   pub epochs : young.epoch ≤ 2 * turns + 1
-  pub few_turns : turns ≤ 2 ^ 62
+  pub few_turns : turns ≤ MOST_TURNS
 
 -- the first words of an array are the meet of the rows of two ids
 pub record IsMetBy (pool : PoolState) (a b : RowId) (met : List ℕ × ℕ) : Type 0 where

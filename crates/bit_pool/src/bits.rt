@@ -1,10 +1,11 @@
 //! Words of 64 bits as sets of numbers.
 ghost use Rattle.std.specs.Prelude.{◌≡◌, ◌↔◌, ℕ, ◌<◌, ◌≤◌, ◌/◌, length, bit_and, slice_index_or, IsTrue};
 ghost use Rattle.bit_pool.specs.Bits.{words_for, bit_of, HasBit, IsSubset, IsRow, size_of};
+ghost use Rattle.bit_pool.specs.declared.limits.TheConstants.{MOST_WIDTH};
 
 /// The least number of words that hold so many bits.
 pub(crate) fn word_count(width: usize) -> usize
-    requires { width ≤ 4_096 }
+    requires { width ≤ MOST_WIDTH }
     ensures { result ≡ words_for width }
 {
     (width + 63) / 64

@@ -1,6 +1,7 @@
 //! The rows of one epoch.
-ghost use Rattle.std.specs.Prelude.{◌≡◌, ◌+◌, ◌*◌, ◌^◌, ◌<◌, ◌≤◌, [], ◌∷◌, ◌++◌, length, take, drop, IfOk, OnOk, slice_index_or};
+ghost use Rattle.std.specs.Prelude.{◌≡◌, ◌+◌, ◌*◌, ◌<◌, ◌≤◌, [], ◌∷◌, ◌++◌, length, take, drop, IfOk, OnOk, slice_index_or};
 ghost use Rattle.bit_pool.specs.Stored.{IsKept};
+ghost use Rattle.bit_pool.specs.declared.limits.TheConstants.{MOST_ROWS};
 
 use crate::NoMemory;
 use std::alloc::Global;
@@ -50,7 +51,7 @@ impl Generation {
     ) -> Result<Generation, NoMemory>
         requires some { 1 ≤ row_words }
         requires most { row_words ≤ 64 }
-        requires few { rows ≤ 2 ^ 24 }
+        requires few { rows ≤ MOST_ROWS }
         ensures epoch { IfOk result (λ g. g.epoch ≡ epoch) }
         ensures row_words { IfOk result (λ g. g.row_words ≡ row_words) }
         ensures empty { IfOk result (λ g. g.rows ≡ []) }
@@ -90,7 +91,7 @@ impl Generation {
     pub(crate) fn push(&mut self, words: &[u64])
         requires row { length words.now ≡ self.old.row_words }
         requires room { (length self.old.rows + 1) * self.old.row_words ≤ self.old.room }
-        requires few { length self.old.rows < 2 ^ 24 }
+        requires few { length self.old.rows < MOST_ROWS }
         ensures epoch { self.new.epoch ≡ self.old.epoch }
         ensures row_words { self.new.row_words ≡ self.old.row_words }
         ensures rows { self.new.rows ≡ self.old.rows ++ words.now ∷ [] }
@@ -104,7 +105,7 @@ impl Generation {
 
     /// Room for so many rows in all.
     pub(crate) fn reserve(&mut self, rows: usize) -> Result<(), NoMemory>
-        requires few { rows ≤ 2 ^ 24 }
+        requires few { rows ≤ MOST_ROWS }
         requires more { length self.old.rows ≤ rows }
         ensures kept { IsKept self.old self.new }
         ensures room { OnOk result (rows * self.new.row_words ≤ self.new.room) }

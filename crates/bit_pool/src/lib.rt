@@ -5,9 +5,11 @@
 mod bits;
 mod faults;
 mod generation;
+mod limits;
 mod pool;
 
 pub use faults::{Full, NoMemory, RowFault, RowId, Stale};
+pub use limits::{MOST_ROWS, MOST_TURNS, MOST_WIDTH};
 pub use pool::RowPool;
 
 #[cfg(test)]

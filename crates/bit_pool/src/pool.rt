@@ -1,8 +1,9 @@
 //! Pools of rows.
-ghost use Rattle.std.specs.Prelude.{◌≡◌, ◌↔◌, ◌+◌, ◌^◌, ◌<◌, ◌≤◌, length, ⊤, Some, IsTrue, IfOk, OnOk, OnErr, MatchResult};
+ghost use Rattle.std.specs.Prelude.{◌≡◌, ◌↔◌, ◌+◌, ◌<◌, ◌≤◌, length, ⊤, Some, IsTrue, IfOk, OnOk, OnErr, MatchResult};
 ghost use Rattle.bit_pool.specs.Bits.{HasBit, IsRow, IsSubset, size_of};
 ghost use Rattle.bit_pool.specs.Pools.{IsPool, IsOpened, IsStale, IsFirstStale, IsPushed, IsMetInto, IsReserved, IsReset, IsSwapped, OnRow, row_of};
 ghost use Rattle.bit_pool.specs.Stored.{IsMetBy};
+ghost use Rattle.bit_pool.specs.declared.limits.TheConstants.{MOST_WIDTH, MOST_ROWS, MOST_TURNS};
 
 use crate::bits::{has_bit, is_within, meet_of, size_of_row, word_count};
 use crate::generation::Generation;
@@ -38,8 +39,8 @@ impl RowPool {
     /// there is no memory for that room.
     pub fn open(alloc: Global, width: usize, rows: usize) -> Result<RowPool, NoMemory>
         requires some { 1 ≤ width }
-        requires most { width ≤ 4_096 }
-        requires few { rows ≤ 2 ^ 24 }
+        requires most { width ≤ MOST_WIDTH }
+        requires few { rows ≤ MOST_ROWS }
         ensures { IfOk result (IsOpened width rows) }
     {
         let words = word_count(width);
@@ -174,7 +175,7 @@ impl RowPool {
     /// Makes room for at least so many rows, at most 2^24, in each generation; all rows stay with their ids. `NoMemory` comes where there is no
     /// memory for that room; nothing changes then.
     pub fn reserve(&mut self, rows: usize) -> Result<(), NoMemory>
-        requires { rows ≤ 2 ^ 24 }
+        requires { rows ≤ MOST_ROWS }
         ensures { IsReserved self.old self.new rows result }
     {
         if rows > self.reserved {
@@ -188,7 +189,7 @@ impl RowPool {
     /// Gives the rows of the old generation up. The young one becomes old, its rows with their ids, and another young one begins without rows,
     /// under an epoch above those before. The pool was turned over fewer than 2^62 times. It takes no memory.
     pub fn swap_generations(&mut self)
-        requires { self.old.turns < 2 ^ 62 }
+        requires { self.old.turns < MOST_TURNS }
         ensures { IsSwapped self.old self.new }
     {
         let epoch = self.young_rows.epoch() + 1;
@@ -199,7 +200,7 @@ impl RowPool {
 
     /// Gives all rows up: both generations are empty, under epochs above those before. The pool was turned over fewer than 2^62 times.
     pub fn reset(&mut self)
-        requires { self.old.turns < 2 ^ 62 }
+        requires { self.old.turns < MOST_TURNS }
         ensures { IsReset self.old self.new }
     {
         let epoch = self.young_rows.epoch() + 1;

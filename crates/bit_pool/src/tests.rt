@@ -1,6 +1,7 @@
 //! Pools of rows.
 ghost use Rattle.std.specs.Prelude.{◌≡◌, ◌≤◌, IsTrue};
 ghost use Rattle.bit_pool.specs.Bits.{IsRow};
+ghost use Rattle.bit_pool.specs.declared.limits.TheConstants.{MOST_WIDTH};
 
 use crate::bits::word_count;
 use crate::{Full, RowFault, RowId, RowPool, Stale};
@@ -10,7 +11,7 @@ use std::test::Fail;
 /// Whether the words are those of a set of numbers below the width.
 fn is_row(width: usize, words: &[u64]) -> bool
     requires some { 1 ≤ width }
-    requires most { width ≤ 4_096 }
+    requires most { width ≤ MOST_WIDTH }
     ensures { IsTrue result → IsRow width words.now }
 {
     if words.len() != word_count(width) {
