@@ -249,8 +249,8 @@ kernel_of_points_next n points first ks next p v k c e h = record {
 }
 
 -- what the loop over the points has added up to the place i
-pub record HasAdded (n : ℕ) (points : List (List ℤ)) (first : List ℤ) (start i : ℕ) (ks : List Member) (old new : List Affine) : Type
-    0 where
+pub record HasAdded (n : ℕ) (points : List (List ℤ)) (first : List ℤ) (start i : ℕ) (ks : List Member) (old new : List Affine)
+    : Type 0 where
   pub kept : (f : Affine) → Contains old f → Contains new f
   pub sound : (f : Affine) → Contains new f → Contains old f ⊎ IsFacet n points f
   pub complete : (f : Affine) → IsReached n points first start ks f → Contains new f ⊎ IsReached n points first i ks f

@@ -90,10 +90,12 @@ impl HullBuilder {
         Ok(())
     }
 
-    /// The facets of all points so far, each once; their order is left open.
+    /// The facets of all points so far, each once; their order is left open. The points aren't flat, and are within the size limit of their
+    /// dimension.
     pub fn facets(&self) -> &[Functional]
         ensures value { result.now ≡ self.now.facets }
         ensures facets { HasFacets (dimension_of self.now.points) self.now.points result.now }
+        ensures solid { AreSolidPoints self.now.points }
     {
         &self.facets
     }

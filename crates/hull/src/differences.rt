@@ -1,10 +1,8 @@
 //! Differences of points, and the kernel of those of a list.
 
-ghost use Rattle.std.specs.Prelude.{◌≡◌, ◌+◌, ◌*◌, ◌^◌, ◌<◌, ◌≤◌, length, nat_abs};
+ghost use Rattle.std.specs.Prelude.{◌≡◌, ◌+◌, ◌^◌, ◌<◌, ◌≤◌, length, nat_abs};
 ghost use Rattle.std.specs.List.{All};
-ghost use Rattle.lattice_theory.specs.Vector.{HaveDimension};
-ghost use Rattle.lattice_theory.specs.Size.{size, absolute_sum};
-ghost use Rattle.lattice_core.specs.Limits.{size_limit_of};
+ghost use Rattle.lattice_theory.specs.Size.{absolute_sum};
 ghost use Rattle.lattice_core.specs.PointLists.{AreSizedPoints};
 ghost use Rattle.lattice_core.specs.Dimensions.{dimension_of};
 ghost use Rattle.hull.specs.steps.Differences.{difference, differences};
@@ -13,10 +11,10 @@ ghost use Rattle.hull.specs.steps.Kernels.{IsPrimitiveKernel};
 use crate::kernel::{kernel_of_none, kernel_with};
 use crate::member::KernelMember;
 use arrayvec::ArrayVec;
-use lattice_core::Point;
+use lattice_core::{MOST_COORDINATES, Point};
 
 /// The difference of two points of one dimension.
-pub(crate) fn point_difference(p: &Point, q: &Point) -> ArrayVec<i64, 6>
+pub(crate) fn point_difference(p: &Point, q: &Point) -> ArrayVec<i64, MOST_COORDINATES>
     requires same { length p.now ≡ length q.now }
     requires small_p { absolute_sum p.now ≤ 2 ^ 30 }
     requires small_q { absolute_sum q.now ≤ 2 ^ 30 }
@@ -30,7 +28,7 @@ pub(crate) fn point_difference(p: &Point, q: &Point) -> ArrayVec<i64, 6>
 }
 
 /// The kernel of the differences of the other points and the first.
-pub(crate) fn kernel_of(points: &[Point]) -> ArrayVec<KernelMember, 6>
+pub(crate) fn kernel_of(points: &[Point]) -> ArrayVec<KernelMember, MOST_COORDINATES>
     requires points { AreSizedPoints points.now }
     ensures kernel { IsPrimitiveKernel (dimension_of points.now) (differences points.now) result.items }
     ensures entries { All (λ k. All (λ a. nat_abs a < 2 ^ 63) k.vector) result.items }

@@ -65,8 +65,8 @@ pub(crate) fn solid(points: &[Point]) -> Result<(), Refusal>
 /// All facets of points with 1 to 6 coordinates, each once, ordered by normal and then by constant. There is at least one point; points may
 /// repeat. Refused are, in this order, points whose size is above the limit of their dimension (the size is told), flat points (with their flat
 /// function), and points with more than 128 facets (their number is told). Without memory for the facets it is `NoMemory`; the first two
-/// refusals need none. For the points' size
-/// S, a facet's normal has entries of at most (2S)^(n-1), and its constant is at most (2S)^(n-1) S. Source: math/0204356, section 2.
+/// refusals need none. For the points' size S, a facet's normal has entries of at most (2S)^(n-1), and its constant is at most (2S)^(n-1) S.
+/// Source: math/0204356, section 2.
 pub fn facets_of(alloc: Global, points: &[Point]) -> Result<Vec<Functional>, Fault>
     requires points { ArePoints points.now }
     ensures facets { IfOk result (λ fs. AreFacets (dimension_of points.now) points.now fs.items) }

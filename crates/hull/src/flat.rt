@@ -1,7 +1,6 @@
 //! Whether points are flat.
 
-ghost use Rattle.std.specs.Prelude.{◌≡◌, ◌<◌, ◌≤◌, length, MatchOption};
-ghost use Rattle.lattice_theory.specs.Vector.{HaveDimension};
+ghost use Rattle.std.specs.Prelude.{◌<◌, MatchOption};
 ghost use Rattle.lattice_theory.specs.Facet.{IsFlat, IsFlatFunction};
 ghost use Rattle.lattice_core.specs.Dimensions.{dimension_of};
 ghost use Rattle.lattice_core.specs.PointLists.{AreSizedPoints};

@@ -8,7 +8,7 @@ ghost use Rattle.lattice_theory.specs.Size.{absolute_sum};
 ghost use Rattle.hull.specs.Hyperplanes.{StartsPositive};
 
 use arrayvec::ArrayVec;
-use lattice_core::{Functional, Point, narrowed};
+use lattice_core::{Functional, MOST_COORDINATES, Point, narrowed};
 
 /// The function with this normal that vanishes at the point.
 pub(crate) fn function_at(normal: &[i128], p: &Point) -> Functional
@@ -30,7 +30,7 @@ pub(crate) fn opposite(f: &Functional) -> Functional
     ensures normal { result.normal ≡ scaled (negsuc 0) f.now.normal }
     ensures constant { result.constant ≡ neg_ℤ f.now.constant }
 {
-    let mut entries: ArrayVec<i64, 6> = ArrayVec::new();
+    let mut entries: ArrayVec<i64, MOST_COORDINATES> = ArrayVec::new();
     for entry in f.normal() {
         entries.push(-*entry);
     }

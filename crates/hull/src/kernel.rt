@@ -1,21 +1,23 @@
 //! The kernel of a list of vectors, found by elimination: the members are primitive, at most 6, and lie in the value itself.
 
-ghost use Rattle.std.specs.Prelude.{◌≡◌, ◌≢◌, ◌⊎◌, ℕ, ◌+◌, ◌*◌, ◌^◌, ◌<◌, ◌≤◌, List, [], ◌∷◌, ◌++◌, length, take, drop, ℤ, pos, nat_abs, MatchOption, IfNone, IfSome, slice_index_or};
+ghost use Rattle.std.specs.Prelude.{◌≡◌, ◌⊎◌, ◌+◌, ◌*◌, ◌<◌, ◌≤◌, List, [], ◌∷◌, ◌++◌, length, ℤ, pos, MatchOption, IfNone, IfSome};
 ghost use Rattle.std.specs.List.{All};
-ghost use Rattle.lattice_theory.specs.Vector.{dot, IsPrimitive};
+ghost use Rattle.lattice_theory.specs.Vector.{dot};
 ghost use Rattle.lattice_theory.specs.Size.{absolute_sum};
-ghost use Rattle.elimination.specs.Elimination.{Member, IsUnitMember};
+ghost use Rattle.elimination.specs.Elimination.{IsUnitMember};
 ghost use Rattle.lattice_core.specs.Limits.{size_limit_of};
 ghost use Rattle.hull.specs.steps.Kernels.{IsPrimitiveKernel, IsSmallKernel, IsPivotAt, IsStepped};
+ghost use Rattle.lattice_core.specs.declared.limits.TheConstants.{MOST_COORDINATES};
 
 use crate::member::KernelMember;
 use crate::reduction::{pairing, reduced};
 use arrayvec::ArrayVec;
+use lattice_core::MOST_COORDINATES;
 
 /// The unit vector at the place `i`.
 fn unit_member(n: usize, i: usize) -> KernelMember
     requires within { i < n }
-    requires most { n ≤ 6 }
+    requires most { n ≤ MOST_COORDINATES }
     ensures { IsUnitMember n i result }
 {
     let mut vector = ArrayVec::new();
@@ -26,8 +28,8 @@ fn unit_member(n: usize, i: usize) -> KernelMember
 }
 
 /// The kernel of no vectors: the unit vectors.
-pub(crate) fn kernel_of_none(n: usize) -> ArrayVec<KernelMember, 6>
-    requires { n ≤ 6 }
+pub(crate) fn kernel_of_none(n: usize) -> ArrayVec<KernelMember, MOST_COORDINATES>
+    requires { n ≤ MOST_COORDINATES }
     ensures kernel { IsPrimitiveKernel n [] result.items }
     ensures count { length result.items ≡ n }
 {
@@ -39,8 +41,8 @@ pub(crate) fn kernel_of_none(n: usize) -> ArrayVec<KernelMember, 6>
 }
 
 /// The same members again.
-fn copies(kernel: &[KernelMember]) -> ArrayVec<KernelMember, 6>
-    requires { length kernel.now ≤ 6 }
+fn copies(kernel: &[KernelMember]) -> ArrayVec<KernelMember, MOST_COORDINATES>
+    requires { length kernel.now ≤ MOST_COORDINATES }
     ensures { result.items ≡ kernel.now }
 {
     let mut members = ArrayVec::new();
@@ -54,7 +56,7 @@ fn copies(kernel: &[KernelMember]) -> ArrayVec<KernelMember, 6>
 fn pivot_place(kernel: &[KernelMember], v: &[i64]) -> Option<usize>
     requires kernel { IsSmallKernel (length v.now) kernel.now }
     requires some { 1 ≤ length v.now }
-    requires most { length v.now ≤ 6 }
+    requires most { length v.now ≤ MOST_COORDINATES }
     requires small { absolute_sum v.now ≤ 2 * size_limit_of (length v.now) }
     ensures { MatchOption result (All (λ k. dot k.vector v.now ≡ pos 0) kernel.now) (IsPivotAt kernel.now v.now) }
 {
@@ -67,10 +69,14 @@ fn pivot_place(kernel: &[KernelMember], v: &[i64]) -> Option<usize>
 }
 
 /// The members before the pivot, and those behind it without the pivot's line.
-fn stepped(kernel: &[KernelMember], place: usize, v: &[i64]) -> ArrayVec<KernelMember, 6>
+fn stepped(
+    kernel: &[KernelMember],
+    place: usize,
+    v: &[i64],
+) -> ArrayVec<KernelMember, MOST_COORDINATES>
     requires kernel { IsSmallKernel (length v.now) kernel.now }
     requires some { 1 ≤ length v.now }
-    requires most { length v.now ≤ 6 }
+    requires most { length v.now ≤ MOST_COORDINATES }
     requires small { absolute_sum v.now ≤ 2 * size_limit_of (length v.now) }
     requires pivot { IsPivotAt kernel.now v.now place }
     ensures { (h : IsPivotAt kernel.now v.now place) → IsStepped h.before h.pivot h.after v.now result.items }
@@ -88,10 +94,10 @@ fn stepped(kernel: &[KernelMember], place: usize, v: &[i64]) -> ArrayVec<KernelM
 pub(crate) fn changed_kernel(
     kernel: &[KernelMember],
     v: &[i64],
-) -> Option<ArrayVec<KernelMember, 6>>
+) -> Option<ArrayVec<KernelMember, MOST_COORDINATES>>
     requires kernel { IsSmallKernel (length v.now) kernel.now }
     requires some { 1 ≤ length v.now }
-    requires most { length v.now ≤ 6 }
+    requires most { length v.now ≤ MOST_COORDINATES }
     requires small { absolute_sum v.now ≤ 2 * size_limit_of (length v.now) }
     ensures kernel { IfSome result (λ next. (vs : List (List ℤ)) → IsPrimitiveKernel (length v.now) vs kernel.now → IsPrimitiveKernel (length v.now) (vs ++ (v.now ∷ [])) next.items) }
     ensures count { IfSome result (λ next. length next.items + 1 ≡ length kernel.now) }
@@ -104,10 +110,13 @@ pub(crate) fn changed_kernel(
 }
 
 /// The kernel with one more vector.
-pub(crate) fn kernel_with(kernel: &[KernelMember], v: &[i64]) -> ArrayVec<KernelMember, 6>
+pub(crate) fn kernel_with(
+    kernel: &[KernelMember],
+    v: &[i64],
+) -> ArrayVec<KernelMember, MOST_COORDINATES>
     requires kernel { IsSmallKernel (length v.now) kernel.now }
     requires some { 1 ≤ length v.now }
-    requires most { length v.now ≤ 6 }
+    requires most { length v.now ≤ MOST_COORDINATES }
     requires small { absolute_sum v.now ≤ 2 * size_limit_of (length v.now) }
     ensures kernel { (vs : List (List ℤ)) → IsPrimitiveKernel (length v.now) vs kernel.now → IsPrimitiveKernel (length v.now) (vs ++ (v.now ∷ [])) result.items }
     ensures count { (length result.items ≡ length kernel.now) ⊎ (length result.items + 1 ≡ length kernel.now) }

@@ -4,6 +4,7 @@ ghost use Rattle.std.specs.Prelude.{◌≡◌, ⊤};
 ghost use Rattle.elimination.specs.Elimination.{Member};
 
 use arrayvec::ArrayVec;
+use lattice_core::MOST_COORDINATES;
 use std::default::Default;
 use std::marker::Model;
 
@@ -11,7 +12,7 @@ use std::marker::Model;
 #[derive(Drop)]
 pub(crate) struct KernelMember {
     own: usize,
-    vector: ArrayVec<i128, 6>,
+    vector: ArrayVec<i128, MOST_COORDINATES>,
 }
 
 impl Model for KernelMember {
@@ -36,7 +37,7 @@ impl Default for KernelMember {
 
 impl KernelMember {
     /// The member with this own place and this vector.
-    pub(crate) fn new(own: usize, vector: ArrayVec<i128, 6>) -> KernelMember
+    pub(crate) fn new(own: usize, vector: ArrayVec<i128, MOST_COORDINATES>) -> KernelMember
         ensures own { result.own ≡ own }
         ensures vector { result.vector ≡ vector.items }
     {

@@ -1,7 +1,6 @@
 //! The hyperplane through as many points as there are coordinates.
 
-ghost use Rattle.std.specs.Prelude.{◌≡◌, ◌↔◌, ◌<◌, ◌≤◌, length, IsNone, IfSome};
-ghost use Rattle.lattice_theory.specs.Vector.{HaveDimension};
+ghost use Rattle.std.specs.Prelude.{◌≡◌, ◌↔◌, ◌<◌, length, IsNone, IfSome};
 ghost use Rattle.lattice_core.specs.Dimensions.{dimension_of};
 ghost use Rattle.hull.specs.Hyperplanes.{IsHyperplane, HasTwoFunctions};
 ghost use Rattle.lattice_core.specs.PointLists.{AreSizedPoints};

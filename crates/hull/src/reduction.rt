@@ -5,15 +5,16 @@ ghost use Rattle.std.specs.List.{All};
 ghost use Rattle.lattice_theory.specs.Vector.{dot};
 ghost use Rattle.lattice_theory.specs.Size.{absolute_sum};
 ghost use Rattle.hull.specs.steps.Kernels.{CanReduce, IsReducedBy, AreMultiplesApart};
+ghost use Rattle.lattice_core.specs.declared.limits.TheConstants.{MOST_COORDINATES};
 
 use crate::member::KernelMember;
 use arrayvec::ArrayVec;
-use lattice_core::primitive;
+use lattice_core::{MOST_COORDINATES, primitive};
 
 /// The sum of the products of the entries.
 pub(crate) fn pairing(k: &[i128], v: &[i64]) -> i128
     requires same_length { length k.now ≡ length v.now }
-    requires most { length v.now ≤ 6 }
+    requires most { length v.now ≤ MOST_COORDINATES }
     requires entries { All (λ a. nat_abs a ≤ 2 ^ 63) k.now }
     requires small { absolute_sum v.now ≤ 2 ^ 33 }
     ensures value { result ≡ dot k.now v.now }
@@ -42,9 +43,9 @@ fn scaled_difference(a: i128, x: i128, b: i128, y: i128) -> i128
 }
 
 /// The vector `a x - b y`.
-fn multiples_apart(a: i128, x: &[i128], b: i128, y: &[i128]) -> ArrayVec<i128, 6>
+fn multiples_apart(a: i128, x: &[i128], b: i128, y: &[i128]) -> ArrayVec<i128, MOST_COORDINATES>
     requires same_length { length x.now ≡ length y.now }
-    requires most { length x.now ≤ 6 }
+    requires most { length x.now ≤ MOST_COORDINATES }
     requires left { All (λ c. nat_abs (a *ℤ c) < 2 ^ 126) x.now }
     requires right { All (λ c. nat_abs (b *ℤ c) < 2 ^ 126) y.now }
     ensures { AreMultiplesApart a x.now b y.now result.items }

@@ -1,13 +1,12 @@
 //! The search for facets: elimination over the choices of points, and then a look at all points.
 
-ghost use Rattle.std.specs.Prelude.{◌≡◌, ◌↔◌, ℕ, ◌+◌, ◌*◌, ◌^◌, ◌<◌, ◌≤◌, List, [], ◌∷◌, length, drop, ℤ, pos, neg_ℤ, nat_abs, IsTrue, IfOk, OnOk};
+ghost use Rattle.std.specs.Prelude.{◌↔◌, ℕ, ◌+◌, ◌^◌, ◌<◌, ◌≤◌, [], ◌∷◌, length, nat_abs, IsTrue, OnOk};
 ghost use Rattle.std.specs.List.{All, Contains};
-ghost use Rattle.lattice_theory.specs.Vector.{dot, HaveDimension};
-ghost use Rattle.lattice_theory.specs.Affine.{Affine, IsNonnegative};
-ghost use Rattle.lattice_theory.specs.Facet.{IsFacet};
-ghost use Rattle.lattice_theory.specs.Size.{size, absolute_sum};
+ghost use Rattle.lattice_theory.specs.Vector.{HaveDimension};
+ghost use Rattle.lattice_theory.specs.Size.{absolute_sum};
 ghost use Rattle.lattice_core.specs.Limits.{IsSized};
 ghost use Rattle.hull.specs.steps.Search.{IsKernelOfPoints, IsReached, AddsFacets, IsSupporting, AddsEach};
+ghost use Rattle.lattice_core.specs.declared.limits.TheConstants.{MOST_COORDINATES};
 
 use crate::differences::point_difference;
 use crate::functions::{function_at, is_nonnegative_on, opposite};
@@ -50,7 +49,7 @@ fn add_both_sides(
     requires dimension { HaveDimension (length first.now) points.now }
     requires within { IsSized (length first.now) points.now }
     requires least { 1 ≤ length first.now }
-    requires most { length first.now ≤ 6 }
+    requires most { length first.now ≤ MOST_COORDINATES }
     requires member { Contains points.now first.now }
     requires kernel { IsKernelOfPoints (length first.now) points.now first.now (member.now ∷ []) }
     ensures { OnOk result ((start : ℕ) → AddsFacets (length first.now) points.now (IsReached (length first.now) points.now first.now start (member.now ∷ [])) facets.old.items facets.new.items) }
@@ -74,7 +73,7 @@ pub(crate) fn add_facets_from(
     requires dimension { HaveDimension (length first.now) points.now }
     requires within { IsSized (length first.now) points.now }
     requires least { 1 ≤ length first.now }
-    requires most { length first.now ≤ 6 }
+    requires most { length first.now ≤ MOST_COORDINATES }
     requires member { Contains points.now first.now }
     requires kernel { IsKernelOfPoints (length first.now) points.now first.now kernel.now }
     requires some { 1 ≤ length kernel.now }

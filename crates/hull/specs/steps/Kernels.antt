@@ -5,6 +5,7 @@ use Rattle.lattice_theory.specs.Vector.{entry, dot, IsPrimitive}
 use Rattle.lattice_theory.specs.Size.{absolute_sum}
 use Rattle.lattice_theory.specs.Order.{Ascends}
 use Rattle.elimination.specs.Elimination.{Member, IsKernel, ArePivots, IsReduced}
+use Rattle.lattice_core.specs.declared.limits.TheConstants.{MOST_COORDINATES}
 use Rattle.lattice_core.specs.Limits.{size_limit_of}
 
 -- ks is a kernel of vectors of length n, with primitive members whose own places ascend
@@ -35,7 +36,7 @@ pub record IsPivotAt (ks : List Member) (v : List ℤ) (place : ℕ) : Type 0 wh
 pub record CanReduce (p : Member) (a : ℤ) (k : Member) (b : ℤ) : Type 0 where
   pub same : length k.vector ≡ length p.vector
   pub some : 1 ≤ length k.vector
-  pub most : length k.vector ≤ 6
+  pub most : length k.vector ≤ MOST_COORDINATES
   pub usable : a ≢ pos 0
   pub apart : entry p.vector k.own ≡ pos 0
   pub positive : pos 0 <ℤ entry k.vector k.own

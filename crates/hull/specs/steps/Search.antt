@@ -21,8 +21,7 @@ pub record IsKernelOfPoints (n : ℕ) (points : List (List ℤ)) (first : List �
   pub from_points : (v : List ℤ) → Contains vectors v → IsFrom points first v
 
 -- the facet f vanishes at the first point, its normal is in the span of ks, and all vectors of the span that have on the points of f from
--- the
--- place start on the same value as at the first are multiples of it
+-- the place start on the same value as at the first are multiples of it
 pub record IsReached (n : ℕ) (points : List (List ℤ)) (first : List ℤ) (start : ℕ) (ks : List Member) (f : Affine) : Type 0 where
   pub facet : IsFacet n points f
   pub at_first : value f first ≡ pos 0
