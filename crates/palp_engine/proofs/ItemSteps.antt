@@ -12,7 +12,8 @@ use Rattle.palp_words.specs.declared.job.Job.{Job}
 use Rattle.palp_input.specs.Grammar.{Listed}
 use Rattle.palp_engine.specs.Items.{IsPiece, IsItemRefused}
 use Rattle.palp_engine.specs.Commands.{IsBuilt, PlainSays, line, whole, refused, Says}
-use Rattle.palp_engine.specs.Sessions.{ItemMeans, IsItemStop}
+use Rattle.palp_engine.specs.Sessions.{ItemMeans}
+use Rattle.palp_engine.specs.RunSteps.{IsItemStop}
 use Rattle.palp_engine.specs.declared.session.ItemFault.{ItemFault}
 
 -- the job that is built says what `poly -n` says

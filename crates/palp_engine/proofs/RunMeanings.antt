@@ -14,7 +14,7 @@ use Rattle.palp_input.specs.Grammar.{most_bytes, Listed, listed, TextEnd, End, F
 use Rattle.palp_engine.specs.Commands.{IsBuilt, AreBuilt, AreUnbuilt, Says}
 use Rattle.palp_engine.specs.Texts.{outcome_with, HaveReport, of_items, of_unbuilt, of_bad_words, no_front, front_of_items}
 use Rattle.palp_engine.specs.Runs.{HasTaken, IsText, AreUntouched, IsReported, IsReportedInPart, IsDone, IsRefusal, HasReadFault, HasWriteFault, HasEnding, TellsBadWords, TellsNotBuilt, IsComplete}
-use Rattle.palp_engine.specs.RunSteps.{GivesEnd, ReportMeans, PerformedMeans, IsPerformed, AnswerMeans, IsAnswered}
+use Rattle.palp_engine.specs.RunSteps.{GivesWhole, ReportMeans, PerformedMeans, IsPerformed, OutcomeMeans, IsAnswered}
 use Rattle.palp_engine.specs.ReadingSteps.{Reads, text_end}
 use Rattle.palp_engine.specs.declared.reading.Reading.{Reading}
 use Rattle.palp_engine.specs.declared.reading.ReadingFault.TheVariants as reading_faults
@@ -52,7 +52,7 @@ module _ (job : Job) (source source_now : SourceState) (read : Reading) (reads :
       subst (λ (x : Outcome). HaveReport words reads.text report x)
       (ap (λ (e : TextEnd). outcome_with stop e) reads.means.ending_is ∙ sym o) (of_items built moved)
 
-  reported : (outcome : Outcome) → GivesEnd job items (text_end read.ending) out out_now outcome
+  reported : (outcome : Outcome) → GivesWhole job items (text_end read.ending) out out_now outcome
       → IsReported words source source_now out out_now outcome
   reported outcome g =
       let have = have_report g.gives.report g.stop outcome g.gives.is_report g.outcome_is in
@@ -132,7 +132,7 @@ read_fault_performed job source source_now out r = record {
 
 -- the job's outcome is the run's
 performed_means : (words : List (List ℕ)) (source source_now : SourceState) (out out_now : SinkState) (outcome : Outcome) → AreBuilt words
-    → PerformedMeans words source source_now out out_now outcome → AnswerMeans words source source_now out out_now outcome
+    → PerformedMeans words source source_now out out_now outcome → OutcomeMeans words source source_now out out_now outcome
 performed_means words source source_now out out_now Done b m = (b, m)
 performed_means words source source_now out out_now (BadText fault) b m = (b, m)
 performed_means words source source_now out out_now (Refused item cause) b m = (b, m)
@@ -171,7 +171,7 @@ module _ (words : List (List ℕ)) (source : SourceState) (out : SinkState) wher
 -- The clauses one by one, from what each outcome means.
 module _ (words : List (List ℕ)) (source source_now : SourceState) (out out_now : SinkState) where
   abbrev Means : Outcome → Type 0
-  Means outcome = AnswerMeans words source source_now out out_now outcome
+  Means outcome = OutcomeMeans words source source_now out out_now outcome
 
   built_bad_words : {Z : Type 0} (fault : WordFault) → AreBuilt words → words_of words ≡ Err fault → Z
   built_bad_words fault b e = job_or_fault words b.job fault b.gives e

@@ -1,6 +1,8 @@
 -- What the steps of a run answer. This project's own.
 use Rattle.std.specs.Prelude.{◌≡◌, ℕ, List, Option, Err}
 use Rattle.lattice_core.specs.declared.faults.Refusal.{Refusal}
+use Rattle.lattice_core.specs.declared.faults.Fault.{Fault}
+use Rattle.lattice_core.specs.declared.faults.Fault.TheVariants as stops
 use Rattle.palp_io.specs.Faults.{Rose}
 use Rattle.palp_io.specs.Source.{SourceState}
 use Rattle.palp_io.specs.Sink.{SinkState}
@@ -17,18 +19,23 @@ use Rattle.palp_engine.specs.declared.outcome.Outcome.TheVariants.{Done, BadWord
 use Rattle.palp_engine.specs.declared.session.ItemFault.{ItemFault}
 use Rattle.palp_engine.specs.declared.session.ItemFault.TheVariants as faults
 
+-- a fault of the work on an item, as the fault of its report
+abbrev pub IsItemStop : Fault → ItemFault → Type 0
+IsItemStop (stops.Refused cause) fault = fault ≡ faults.Refused cause
+IsItemStop stops.NoMemory fault = fault ≡ faults.NoMemory
+
 -- the report of items was appended, whole, and the outcome is the one that it ends with
-pub record GivesEnd (job : Job) (items : List Listed) (ending : TextEnd) (out out_now : SinkState) (outcome : Outcome) : Type 0 where
+pub record GivesWhole (job : Job) (items : List Listed) (ending : TextEnd) (out out_now : SinkState) (outcome : Outcome) : Type 0 where
   pub stop : Option (Stop Refusal)
   pub gives : GivesReport (Says job) items stop out out_now
   pub outcome_is : outcome ≡ outcome_with stop ending
 
 -- what an outcome of the report of items means
 abbrev pub ReportMeans : Job → List Listed → TextEnd → SinkState → SinkState → Outcome → Type 0
-ReportMeans job items ending out out_now Done = GivesEnd job items ending out out_now Done
-ReportMeans job items ending out out_now (BadText fault) = GivesEnd job items ending out out_now (BadText fault)
-ReportMeans job items ending out out_now (Refused item cause) = GivesEnd job items ending out out_now (Refused item cause)
-ReportMeans job items ending out out_now TextLimit = GivesEnd job items ending out out_now TextLimit
+ReportMeans job items ending out out_now Done = GivesWhole job items ending out out_now Done
+ReportMeans job items ending out out_now (BadText fault) = GivesWhole job items ending out out_now (BadText fault)
+ReportMeans job items ending out out_now (Refused item cause) = GivesWhole job items ending out out_now (Refused item cause)
+ReportMeans job items ending out out_now TextLimit = GivesWhole job items ending out out_now TextLimit
 ReportMeans job items ending out out_now WriteFault = Rose out.faults out_now.faults × GivesFront (Says job) items out out_now
 ReportMeans job items ending out out_now NoMemory = GivesFront (Says job) items out out_now
 ReportMeans job items ending out out_now other = ⊥
@@ -58,12 +65,12 @@ pub record IsPerformed (job : Job) (source source_now : SourceState) (out out_no
       → PerformedMeans words source source_now out out_now outcome
 
 -- what each outcome means
-abbrev pub AnswerMeans : List (List ℕ) → SourceState → SourceState → SinkState → SinkState → Outcome → Type 0
-AnswerMeans words source source_now out out_now (BadWords fault) = (words_of words ≡ Err fault) × AreUntouched source source_now out out_now
-AnswerMeans words source source_now out out_now NotBuilt = AreUnbuilt words × AreUntouched source source_now out out_now
-AnswerMeans words source source_now out out_now outcome = AreBuilt words × PerformedMeans words source source_now out out_now outcome
+abbrev pub OutcomeMeans : List (List ℕ) → SourceState → SourceState → SinkState → SinkState → Outcome → Type 0
+OutcomeMeans words source source_now out out_now (BadWords fault) = (words_of words ≡ Err fault) × AreUntouched source source_now out out_now
+OutcomeMeans words source source_now out out_now NotBuilt = AreUnbuilt words × AreUntouched source source_now out out_now
+OutcomeMeans words source source_now out out_now outcome = AreBuilt words × PerformedMeans words source source_now out out_now outcome
 
 -- so many bytes passed, and the outcome means what it says
 pub record IsAnswered (words : List (List ℕ)) (source source_now : SourceState) (out out_now : SinkState) (outcome : Outcome) : Type 0 where
   pub taken : HasTaken source source_now
-  pub means : AnswerMeans words source source_now out out_now outcome
+  pub means : OutcomeMeans words source source_now out out_now outcome

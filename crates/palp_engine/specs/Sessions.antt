@@ -1,7 +1,5 @@
 -- What the report of one item answers. This project's own.
-use Rattle.std.specs.Prelude.{◌≡◌, [], ◌∷◌, Result, Ok, Err}
-use Rattle.lattice_core.specs.declared.faults.Fault.{Fault}
-use Rattle.lattice_core.specs.declared.faults.Fault.TheVariants as stops
+use Rattle.std.specs.Prelude.{[], ◌∷◌, Result, Ok, Err}
 use Rattle.palp_io.specs.Faults.{Rose}
 use Rattle.palp_io.specs.Sink.{SinkState}
 use Rattle.report_theory.specs.Report.{Whole, Ends}
@@ -13,15 +11,9 @@ use Rattle.palp_engine.specs.declared.session.ItemFault.{ItemFault}
 use Rattle.palp_engine.specs.declared.session.ItemFault.TheVariants as faults
 
 -- what the answer for an item means: all its pieces were appended, and it isn't refused, or this is its first refusal; or, where the count
--- of
--- faults rose or memory was wanting, a front of its pieces was appended
+-- of faults rose or memory was wanting, a front of its pieces was appended
 abbrev pub ItemMeans : Result (Unit {0}) ItemFault → Job → Listed → SinkState → SinkState → Type 0
 ItemMeans (Ok done) job item before now = GivesItem (Says job) item Whole before now
 ItemMeans (Err (faults.Refused cause)) job item before now = GivesItem (Says job) item (Ends cause) before now
 ItemMeans (Err faults.Write) job item before now = Rose before.faults now.faults × GivesFront (Says job) (item ∷ []) before now
 ItemMeans (Err faults.NoMemory) job item before now = GivesFront (Says job) (item ∷ []) before now
-
--- a fault of the work on an item, as the fault of its report
-abbrev pub IsItemStop : Fault → ItemFault → Type 0
-IsItemStop (stops.Refused cause) fault = fault ≡ faults.Refused cause
-IsItemStop stops.NoMemory fault = fault ≡ faults.NoMemory

@@ -32,7 +32,7 @@ pub enum ItemFault {
 }
 
 impl From<Fault> for ItemFault {
-    ghost use Rattle.palp_engine.specs.Sessions.{IsItemStop};
+    ghost use Rattle.palp_engine.specs.RunSteps.{IsItemStop};
 
     ghost from_gives = { λ fault item. IsItemStop fault item };
 
