@@ -81,7 +81,8 @@ module _ (job : Job) (source source_now : SourceState) (read : Reading) (reads :
   report_means Done m =
       record {
         reported = reported Done m;
-        has_ended = reads.means.whole (end_is read.ending (end_alone m.stop (text_end read.ending) m.outcome_is));
+        has_ended = λ given gives text. reads.means.whole
+            (end_is read.ending (end_alone m.stop (text_end read.ending) m.outcome_is));
       }
   report_means (BadText fault) m = reported (BadText fault) m
   report_means (Refused item cause) m = reported (Refused item cause) m

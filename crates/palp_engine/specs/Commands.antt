@@ -28,6 +28,13 @@ plain_flags = record {
 abbrev pub IsBuilt : Job → Type 0
 IsBuilt job = job ≡ Poly plain_flags
 
+-- the job reads a text, and reports of its items
+abbrev pub ReadsText : Job → Type 0
+ReadsText (Poly flags) = Unit {0}
+ReadsText (Nef words) = Unit {0}
+ReadsText (Cws words) = ⊥
+ReadsText (Sweep words) = ⊥
+
 -- the words give a job that is built
 pub record AreBuilt (words : List (List ℕ)) : Type 0 where
   pub job : Job

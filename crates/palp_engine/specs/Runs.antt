@@ -1,13 +1,14 @@
 -- What a run does to its streams, and what its outcome means. This project's own.
-use Rattle.std.specs.Prelude.{◌≡◌, ℕ, ◌+◌, ◌≤◌, ◌⊎◌, ◌↔◌, List, length, Option, Some, None, Err}
+use Rattle.std.specs.Prelude.{◌≡◌, ℕ, ◌+◌, ◌≤◌, ◌⊎◌, ◌↔◌, List, length, Option, Some, None, Ok, Err}
 use Rattle.palp_io.specs.Faults.{Rose}
 use Rattle.palp_io.specs.Source.{SourceState, HasEnded, Passes}
 use Rattle.palp_io.specs.Sink.{SinkState}
 use Rattle.report_theory.specs.Giving.{GivesPieces}
 use Rattle.palp_words.specs.Words.{words_of}
 use Rattle.palp_words.specs.declared.fault.WordFault.{WordFault}
+use Rattle.palp_words.specs.declared.job.Job.{Job}
 use Rattle.palp_input.specs.Grammar.{most_bytes}
-use Rattle.palp_engine.specs.Commands.{AreUnbuilt}
+use Rattle.palp_engine.specs.Commands.{AreUnbuilt, ReadsText}
 use Rattle.palp_engine.specs.Texts.{IsReport, EndsWith, IsFront}
 use Rattle.palp_engine.specs.declared.outcome.Outcome.{Outcome}
 use Rattle.palp_engine.specs.declared.outcome.Outcome.TheVariants.{Done, BadWords, BadText, Refused, TextLimit, NotBuilt, ReadFault, WriteFault, NoMemory}
@@ -54,21 +55,21 @@ pub record IsReportedInPart (words : List (List ℕ)) (source source_now : Sourc
   pub gives : GivesPieces out out_now front
 
 -- the outcome tells a fault of the words exactly where they have it, and then the streams are as they were
-pub record TellsBadWords (words : List (List ℕ)) (outcome : Outcome) (source source_now : SourceState) (out out_now : SinkState) : Type
-    0 where
+pub record TellsBadWords (words : List (List ℕ)) (outcome : Outcome) (source source_now : SourceState) (out out_now : SinkState)
+    : Type 0 where
   pub exactly : (fault : WordFault) → (outcome ≡ BadWords fault) ↔ (words_of words ≡ Err fault)
   pub untouched : (fault : WordFault) → words_of words ≡ Err fault → AreUntouched source source_now out out_now
 
 -- the outcome tells that the job isn't built exactly where the words give such a one, and then the streams are as they were
-pub record TellsNotBuilt (words : List (List ℕ)) (outcome : Outcome) (source source_now : SourceState) (out out_now : SinkState) : Type
-    0 where
+pub record TellsNotBuilt (words : List (List ℕ)) (outcome : Outcome) (source source_now : SourceState) (out out_now : SinkState)
+    : Type 0 where
   pub exactly : (outcome ≡ NotBuilt) ↔ AreUnbuilt words
   pub untouched : AreUnbuilt words → AreUntouched source source_now out out_now
 
--- the whole report was appended, and the source was read to its end
+-- the whole report was appended, and where the job reads a text the source was read to its end
 pub record IsDone (words : List (List ℕ)) (source source_now : SourceState) (out out_now : SinkState) : Type 0 where
   pub reported : IsReported words source source_now out out_now Done
-  pub has_ended : HasEnded source_now
+  pub has_ended : (job : Job) → words_of words ≡ Ok job → ReadsText job → HasEnded source_now
 
 -- the outcome refuses the text, an item of it, or its length
 abbrev pub IsRefusal : Outcome → Type 0

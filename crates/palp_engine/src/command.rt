@@ -116,11 +116,12 @@ fn answer<S: Source, O: Sink>(alloc: Global, words: &[String], src: &mut S, out:
 /// report was given. `Refused` tells the first item that exceeds a limit (docs/limits.md) or is flat, `BadText` the first fault of the
 /// text, and `TextLimit` a text of more than 67,108,864 bytes; the items before are reported. Other commands are `NotBuilt`, and words that
 /// give none are `BadWords`; nothing is read then. `ReadFault` and `WriteFault` come only where the count of faults of the source, or of
-/// `out`, rose in this call; `NoMemory` may come at any step of `poly`. At most 67,108,865 bytes are taken, and none after the source's end.
-/// Where the report is empty nothing is given to `out`. For each outcome but `Done` the outcome's note line is given to `notes`, or a front
-/// of it where the count of faults of `notes` rose, which changes nothing else.
+/// `out`, rose in this call; `NoMemory` may come at any step of `poly`. At most 67,108,865 bytes are taken. Where the report is
+/// empty nothing is given to `out`. For each outcome but `Done` the outcome's note line is given to `notes`, or a front of it where the count
+/// of faults of `notes` rose, which changes nothing else.
 ///
-/// The text is what the source had left. Of a source that doesn't tell that, as a real stream, the text is the bytes that passed.
+/// The text is what the source had left. Of a source that doesn't tell that, as a real stream, it is the bytes that passed: the clauses say
+/// then that there are such bytes, whose report is the one that was given.
 pub fn run<S: Source, O: Sink, N: Sink>(
     alloc: Global,
     words: &[String],
@@ -138,7 +139,7 @@ pub fn run<S: Source, O: Sink, N: Sink>(
     ensures bad_words { TellsBadWords (map string_bytes words.now) result (S.state src.old) (S.state src.new) (O.state out.old) (O.state out.new) }
     ensures not_built { TellsNotBuilt (map string_bytes words.now) result (S.state src.old) (S.state src.new) (O.state out.old) (O.state out.new) }
 
-    // With `Done` the report was appended, whole, and the source was read to its end.
+    // With `Done` the report was appended, whole, and the source was read to its end where the job reads a text, as `poly` does.
     ensures done { result ≡ Done → IsDone (map string_bytes words.now) (S.state src.old) (S.state src.new) (O.state out.old) (O.state out.new) }
 
     // With `BadText`, `Refused` and `TextLimit` the report was appended, whole, and ends with this outcome.
