@@ -5,7 +5,7 @@ use Rattle.std.proofs.lemmas.List.{append-nil, take-append-drop, drop-drop}
 use Rattle.palp_io.specs.Source.{SourceState, Passes}
 use Rattle.std.specs.Prelude.{OnSome}
 use Rattle.std.specs.Io.KnownBytes.{prepend_known, IsAtEnd}
-use Rattle.palp_io.specs.Memory.{PassesBytes}
+use Rattle.palp_io.specs.MemorySteps.{PassesBytes}
 use Rattle.palp_io.specs.Laws.{EndsExactly}
 use Rattle.palp_io.specs.declared.taking.Took.TheVariants.{Bytes, End, Failed}
 

@@ -2,5 +2,6 @@ pub mod Faults
 pub mod Source
 pub mod Sink
 pub mod Memory
+pub mod MemorySteps
 pub mod Streams
 pub mod Laws

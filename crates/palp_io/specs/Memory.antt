@@ -61,11 +61,6 @@ pub record FailsInTurn (before now : SourceInMemory) : Type 0 where
   pub chunk_stays : now.chunk ≡ before.chunk
   pub failing_stay : now.failing ≡ before.failing
 
--- the bytes went from the front of what is left to the end of what was taken
-pub record PassesBytes (left_before taken_before left_now taken_now bytes : List ℕ) : Type 0 where
-  pub front : left_before ≡ bytes ++ left_now
-  pub back : taken_now ≡ taken_before ++ bytes
-
 -- as many of the bytes that are left as may be given, and the end where none is left
 abbrev pub GivesNext : List ℕ → ℕ → Took → Type 0
 GivesNext left most (Bytes n) = (0 < length left) × (n ≡ min most (length left))
@@ -79,12 +74,6 @@ TakesFromMemory before now room (Bytes n) =
 TakesFromMemory before now room End =
     TakesInTurn before now × GivesNext before.left (min before.chunk room) End
 TakesFromMemory before now room Failed = FailsInTurn before now
-
--- what holds of the fields of a source in memory: its place stands in its bytes, and a call may
--- give a byte
-pub record IsSourceInside (position size chunk : ℕ) : Type 0 where
-  pub within : position ≤ size
-  pub some : 1 ≤ chunk
 
 -- one more call of a sink in memory
 pub record IsNextGive (before now : SinkInMemory) : Type 0 where
@@ -101,7 +90,7 @@ pub record GivesInTurn (before now : SinkInMemory) (piece : List ℕ) : Type 0 w
 
 -- nothing was appended and a fault was counted, since the call is one of the failing ones or the
 -- piece is longer than the room
-pub record GivesNothing (before now : SinkInMemory) (piece : List ℕ) : Type 0 where
+pub record FailsToGive (before now : SinkInMemory) (piece : List ℕ) : Type 0 where
   pub cause : Contains before.failing now.calls ⊎ (before.room < length piece)
   pub given_stays : now.given ≡ before.given
   pub room_stays : now.room ≡ before.room
@@ -112,4 +101,4 @@ abbrev pub GivesToMemory : SinkInMemory → SinkInMemory → List ℕ → Gave �
 GivesToMemory before now piece All =
     IsNextGive before now × GivesInTurn before now piece
 GivesToMemory before now piece GiveFailed =
-    IsNextGive before now × GivesNothing before now piece
+    IsNextGive before now × FailsToGive before now piece

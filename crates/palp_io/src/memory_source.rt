@@ -25,7 +25,8 @@ pub struct MemSource {
 
 impl Model for MemSource {
     ghost use Rattle.std.specs.Prelude.{◌≤◌, take, drop, length};
-    ghost use Rattle.palp_io.specs.Memory.{SourceInMemory, IsSourceInside};
+    ghost use Rattle.palp_io.specs.Memory.{SourceInMemory};
+    ghost use Rattle.palp_io.specs.MemorySteps.{IsSourceInside};
 
     ghost Value = { SourceInMemory };
 

@@ -1,7 +1,8 @@
 // The next bytes of a list, as the answer of a take.
 ghost use Rattle.std.specs.Prelude.{◌≤◌, ◌<◌, min, take, drop, length};
 ghost use Rattle.palp_io.specs.Source.{bytes_of};
-ghost use Rattle.palp_io.specs.Memory.{GivesNext, PassesBytes};
+ghost use Rattle.palp_io.specs.Memory.{GivesNext};
+ghost use Rattle.palp_io.specs.MemorySteps.{PassesBytes};
 
 use crate::taking::Took;
 
