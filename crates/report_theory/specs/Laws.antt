@@ -6,13 +6,13 @@ use Rattle.report_theory.specs.Report.{Closing, Whole, Ends, Continues, Close, S
 use Rattle.report_theory.specs.Told.{ToldItem, ToldSays}
 
 -- an item has one list of pieces, which ends in one way
-abbrev pub OneList : Type 0
-OneList = (item : ToldItem) (pieces other : List (List ℕ)) (closing another : Closing ℕ) → ArePieces ToldSays 0 item pieces closing
+abbrev pub OneListOfPieces : Type 0
+OneListOfPieces = (item : ToldItem) (pieces other : List (List ℕ)) (closing another : Closing ℕ) → ArePieces ToldSays 0 item pieces closing
     → ArePieces ToldSays 0 item other another → (pieces ≡ other) × (closing ≡ another)
 
 -- items have one report, and one first refusal
-abbrev pub OneReport : Type 0
-OneReport = (items : List ToldItem) (report other : List (List ℕ)) (stop another : Option (Stop ℕ))
+abbrev pub OneReportOfItems : Type 0
+OneReportOfItems = (items : List ToldItem) (report other : List (List ℕ)) (stop another : Option (Stop ℕ))
     → IsListReport ToldSays 1 0 items report stop → IsListReport ToldSays 1 0 items other another → (report ≡ other) × (stop ≡ another)
 
 -- no item is both whole and refused
@@ -27,13 +27,13 @@ FirstItemFirst = (item : ToldItem) (items : List ToldItem) (pieces later : List 
     → IsListReport ToldSays 1 0 (item ∷ items) (pieces ++ later) stop
 
 -- a front of a report stands at its front
-abbrev pub FrontsAreFronts : Type 0
-FrontsAreFronts = (items : List ToldItem) (front report : List (List ℕ)) (stop : Option (Stop ℕ))
+abbrev pub FrontsOfItemsAreFronts : Type 0
+FrontsOfItemsAreFronts = (items : List ToldItem) (front report : List (List ℕ)) (stop : Option (Stop ℕ))
     → IsListFront ToldSays 0 items front → IsListReport ToldSays 1 0 items report stop → IsPrefix (concat front) (concat report)
 
 -- an empty report has no front but nothing
-abbrev pub EmptyFront : Type 0
-EmptyFront = (items : List ToldItem) (front : List (List ℕ)) (stop : Option (Stop ℕ))
+abbrev pub EmptyFrontOfItems : Type 0
+EmptyFrontOfItems = (items : List ToldItem) (front : List (List ℕ)) (stop : Option (Stop ℕ))
     → IsListFront ToldSays 0 items front → IsListReport ToldSays 1 0 items [] stop → front ≡ []
 
 -- the report of fewer items is a front of the report of more

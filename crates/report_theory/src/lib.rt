@@ -1,23 +1,25 @@
 //! The report of a list of items: a job says of each item what comes next, one step after another, and reports, their fronts and their first
 //! refusals are folded from that. It knows nothing of what the items are, and stands on `palp_io` for what a sink was given. Its central
-//! theorem: where what comes next is one thing, items have one report, and what is told as a front of it is one.
+//! theorem: where what comes next is one thing, items have one report, and what is told as a front of it is one. The law states it for
+//! items that tell their pieces; the lemmas in proofs/Reports.antt hold for any.
 #![tactic(auto)]
 
 ghost use Rattle.std.specs.Prelude.{[], ◌∷◌, None, codes};
 ghost use Rattle.report_theory.specs.Report.{ArePieces, IsListReport, IsListFront, Ends, stop_at};
 ghost use Rattle.report_theory.specs.Told.{ToldSays, silent, plain, refused_late, refused_between};
-ghost use Rattle.report_theory.specs.Laws.{OneList, OneReport, WholeOrRefused, FirstItemFirst, FrontsAreFronts, EmptyFront, FewerItems};
+ghost use Rattle.report_theory.specs.Laws.{OneListOfPieces, OneReportOfItems, WholeOrRefused, FirstItemFirst, FrontsOfItemsAreFronts, EmptyFrontOfItems, FewerItems};
 
 /// A law, and no work: an item has one list of pieces, and items have one report with one first refusal, which begins with the pieces of the
 /// first item; no item is both whole and refused. What is told as a front of a report stands at its front, an empty report has no front but
-/// nothing, and the report of fewer items is a front of the report of more.
+/// nothing, and the report of fewer items is a front of the report of more. It is stated for items that tell their pieces; the lemmas in
+/// proofs/Reports.antt hold for any.
 pub fn reports_are_single()
-    ensures pieces { OneList }
-    ensures report { OneReport }
+    ensures pieces { OneListOfPieces }
+    ensures report { OneReportOfItems }
     ensures apart { WholeOrRefused }
     ensures first { FirstItemFirst }
-    ensures front { FrontsAreFronts }
-    ensures empty { EmptyFront }
+    ensures front { FrontsOfItemsAreFronts }
+    ensures empty { EmptyFrontOfItems }
     ensures fewer { FewerItems }
 {}
 
