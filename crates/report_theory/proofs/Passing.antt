@@ -23,8 +23,8 @@ pub record Begun {X R : Type 0} (says : X → ℕ → Step R → Type 0) (item :
   pub front_on : (later : List (List ℕ)) → IsListFront says k (item ∷ []) later → IsListFront says 0 (item ∷ []) (begin ++ later)
 
 -- These items and their pieces were passed, with this first refusal: what follows is the report of the items behind them, or a front of it.
-pub record Passed {X R : Type 0} (says : X → ℕ → Step R → Type 0) (seen : List X) (begin : List (List ℕ)) (first : Option (Stop R)) : Type
-    0 where
+pub record Passed {X R : Type 0} (says : X → ℕ → Step R → Type 0) (seen : List X) (begin : List (List ℕ)) (first : Option (Stop R))
+    : Type 0 where
   pub goes_on : (behind : List X) (later : List (List ℕ)) (stop : Option (Stop R)) → IsListReport says (length seen + 1) 0 behind later stop
       → IsListReport says 1 0 (seen ++ behind) (begin ++ later) (first_stop first stop)
   pub front_on : (behind : List X) (later : List (List ℕ)) → IsListFront says 0 behind later

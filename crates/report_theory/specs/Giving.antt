@@ -11,8 +11,8 @@ pub record GivesPieces (before now : SinkState) (pieces : List (List ℕ)) : Typ
   pub nothing : pieces ≡ [] → now ≡ before
 
 -- all pieces of an item that closes so were appended
-pub record GivesItem {X R : Type 0} (says : X → ℕ → Step R → Type 0) (item : X) (closing : Closing R) (before now : SinkState) : Type
-    0 where
+pub record GivesItem {X R : Type 0} (says : X → ℕ → Step R → Type 0) (item : X) (closing : Closing R) (before now : SinkState)
+    : Type 0 where
   pub pieces : List (List ℕ)
   pub are_pieces : ArePieces says 0 item pieces closing
   pub gives : GivesPieces before now pieces

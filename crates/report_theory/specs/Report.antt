@@ -3,8 +3,7 @@ use Rattle.std.specs.Prelude.{◌≡◌, ℕ, ◌+◌, List, [], ◌∷◌, Opti
 use Rattle.palp_io.specs.Sink.{IsPrefix}
 
 -- how the pieces of an item end: the item is whole; or it is refused, and the report ends with it; or it is refused, and the report
--- continues
--- with the next item
+-- continues with the next item
 pub data Closing (R : Type 0) : Type 0 where
   Whole : Closing R
   Ends : R → Closing R
@@ -42,8 +41,7 @@ pub data ArePieces {X R : Type 0} (says : X → ℕ → Step R → Type 0) : ℕ
   no_more : {k : ℕ} {item : X} {closing : Closing R} → says item k (Close closing) → ArePieces says k item [] closing
 
 -- The report of items, in pieces, and its first refusal: the pieces of each item, in order, up to one that ends the report. The first item
--- has
--- this number, and k of its pieces stand before.
+-- has this number, and k of its pieces stand before.
 pub data IsListReport {X R : Type 0} (says : X → ℕ → Step R → Type 0) : ℕ → ℕ → List X → List (List ℕ) → Option (Stop R) → Type 0 where
   no_item : {number : ℕ} → IsListReport says number 0 [] [] None
   next_piece : {number k : ℕ} {item : X} {items : List X} {bytes : List ℕ} {later : List (List ℕ)} {stop : Option (Stop R)}

@@ -16,8 +16,7 @@ abbrev pub ToldSays : ToldItem → ℕ → Step ℕ → Type 0
 ToldSays item k step = step ≡ told_step item.pieces item.closing k
 
 -- Four items for examples: one that prints nothing, one with a piece, one that is refused behind two pieces, and one that is refused behind
--- a
--- piece and lets the report continue.
+-- a piece and lets the report continue.
 abbrev pub silent : ToldItem
 silent = record { pieces = []; closing = Whole }
 
