@@ -14,4 +14,4 @@ mod rows;
 mod search;
 
 pub use laws::{exponents_are_small, given_vectors_are_all};
-pub use monomials::{Monomials, count_to};
+pub use monomials::{MOST_COUNT, Monomials, count_to};

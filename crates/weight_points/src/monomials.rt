@@ -1,10 +1,11 @@
 //! The walk through the exponent vectors, and their number.
 
-ghost use Rattle.std.specs.Prelude.{◌≡◌, ◌^◌, ◌≤◌, List, [], length, map, replicate, pos, IfOk};
+ghost use Rattle.std.specs.Prelude.{◌≡◌, ◌≤◌, List, [], length, map, replicate, pos, IfOk};
 ghost use Rattle.std.specs.List.{All};
 ghost use Rattle.lattice_theory.specs.Grid.{Follows};
 ghost use Rattle.lattice_core.specs.Weights.{weighted_all, columns_of, IsMonomial, AreWellFormed, AreWithinLimits};
 ghost use Rattle.lattice_core.specs.declared.limits.TheConstants.{MOST_DEGREE};
+ghost use Rattle.weight_points.specs.declared.monomials.TheConstants.{MOST_COUNT};
 ghost use Rattle.weight_points.specs.Members.{GivesNext, CountsMonomials};
 ghost use Rattle.weight_points.specs.steps.Rows.{systems_of, AreRows};
 
@@ -13,6 +14,9 @@ use crate::search::advance;
 use lattice_core::{NoMemory, WeightSystem};
 use std::alloc::Global;
 use std::marker::Model;
+
+/// The largest limit that a count of exponent vectors may be given: 2^40.
+pub const MOST_COUNT: u64 = 1_099_511_627_776;
 
 /// A walk through the exponent vectors of weight systems, in lexicographic order. Contracts see the systems, and how many vectors it has
 /// given.
@@ -119,7 +123,7 @@ impl Monomials {
 pub fn count_to(alloc: Global, systems: &[WeightSystem], limit: u64) -> Result<u64, NoMemory>
     requires formed { AreWellFormed (weighted_all systems.now) }
     requires limits { AreWithinLimits (weighted_all systems.now) }
-    requires limit { limit ≤ 2 ^ 40 }
+    requires limit { limit ≤ MOST_COUNT }
     ensures { IfOk result (CountsMonomials (weighted_all systems.now) limit) }
 {
     let mut rows = rows_of(alloc, systems)?;
