@@ -79,8 +79,8 @@ impl Reader {
     /// many. `Read` comes only where the source failed, and `NoMemory` where the bytes or the item
     /// find no memory. After `None`, and after an item whose last line has no line end, the source
     /// has ended. After an error or `None` the reader isn't live. It never takes more than 67,108,865
-    /// bytes in all, and nothing once a take has answered `End`; a source that is handed in after
-    /// that has ended.
+    /// bytes in all, and no later call takes from the source once a take has answered `End`; a
+    /// source that is handed in after that has ended.
     pub fn next_item<S: Source>(&mut self, src: &mut S) -> Result<Option<Item>, NextFault>
         requires live { self.old.live ≡ true }
         requires handed { IsHanded self.old (S.state src.old) }
