@@ -159,20 +159,17 @@ facets_bound_lem n points solid y l h = zero_from_entries y (λ i. ⊎_elim
     (cases_lt i n))
 
 -- where a sum is positive, some term is
-some_positive : (n : ℕ) (points : List (List ℤ)) (fs : List Affine) (x : List ℤ) (d : ℤ) → Each (IsFacet n points) fs
-    → pos 0 <ℤ total_over fs x d
-    → (f : Affine) × IsFacet n points f × (pos 0 <ℤ value_over f x d)
-some_positive n points [] x d h p = absurd (omega (arith, linear))
-some_positive n points (f ∷ fs) x d (more facet facets) p =
-    by (positive_or_not (value_over f x d)) (λ q. some_positive n points fs x d facets q)
+pub some_positive : (P : Affine → Type 0) (fs : List Affine) (x : List ℤ) (d : ℤ) → Each P fs → pos 0 <ℤ total_over fs x d
+    → (f : Affine) × P f × (pos 0 <ℤ value_over f x d)
+some_positive P [] x d h p = absurd (omega (arith, linear))
+some_positive P (f ∷ fs) x d (more holds all) p = by (positive_or_not (value_over f x d)) (λ q. some_positive P fs x d all q)
   where
     rest : (a b : ℤ) → a ≤ℤ pos 0 → pos 0 <ℤ (a +ℤ b) → pos 0 <ℤ b
     rest a b h k = omega (arith, linear)
 
     by : (pos 0 <ℤ value_over f x d) ⊎ (value_over f x d ≤ℤ pos 0)
-        → (pos 0 <ℤ total_over fs x d → (f : Affine) × IsFacet n points f × (pos 0 <ℤ value_over f x d)) → (f : Affine) × IsFacet n points f
-        × (pos 0 <ℤ value_over f x d)
-    by (inl q) later = (f, facet, q)
+        → (pos 0 <ℤ total_over fs x d → (f : Affine) × P f × (pos 0 <ℤ value_over f x d)) → (f : Affine) × P f × (pos 0 <ℤ value_over f x d)
+    by (inl q) later = (f, holds, q)
     by (inr q) later = later (rest (value_over f x d) (total_over fs x d) q p)
 
 -- the law on constants: the constant 1 is a sum of facets, so some summand has a positive constant
@@ -193,7 +190,7 @@ some_positive_constant_lem n points solid = by (facets_generate_lem n points sol
         nil a c e = omega (arith, linear)
 
     by : IsSumOfFacets n points one → (f : Affine) × IsFacet n points f × (pos 0 <ℤ f.constant)
-    by s = found (some_positive n points s.summands [] (pos 1) (each_from_all (IsFacet n points) s.summands s.are_facets)
+    by s = found (some_positive (IsFacet n points) s.summands [] (pos 1) (each_from_all (IsFacet n points) s.summands s.are_facets)
         (positive_same (s.sums [] (pos 1)) (product_positive (pos s.multiplier) (value_over one [] (pos 1))
         (positive_pos s.multiplier s.positive)
         (positive_same (sym (constant one)) (omega (arith, linear))))))

@@ -74,8 +74,8 @@ pub vertex_inside : (n : ℕ) (points vertices : List (List ℤ)) → ((v : List
     → In v vertices → In v points
 vertex_inside n points vertices same v i = in_from_contains points ((same v).0 (contains_from_in i)).member
 
--- a function that is 0 along f at the vertices is bounded by a multiple of f there, on both sides
-above_along : (m c a b : ℤ) → (c ≡ pos 1) ⊎ (c ≡ neg_ℤ (pos 1)) → pos 0 ≤ℤ a → (a ≡ pos 0 → b ≡ pos 0) → neg_ℤ m <ℤ b → b <ℤ m
+-- a number that is 0 where a nonnegative one is 0 is bounded by a large multiple of it, on both sides
+pub above_along : (m c a b : ℤ) → (c ≡ pos 1) ⊎ (c ≡ neg_ℤ (pos 1)) → pos 0 ≤ℤ a → (a ≡ pos 0 → b ≡ pos 0) → neg_ℤ m <ℤ b → b <ℤ m
     → pos 0 ≤ℤ (m *ℤ a +ℤ c *ℤ b)
 above_along m c a b sign h along low high = by (zero_or_not a) sign
   where

@@ -6,7 +6,8 @@ use Rattle.lattice_theory.specs.Vector.{entry, dot}
 use Rattle.lattice_theory.specs.Affine.{Affine, value, IsMultiple}
 use Rattle.lattice_theory.proofs.Integers.{linear}
 use Rattle.lattice_theory.proofs.Divisibility.{primitive_from_combination}
-use Rattle.lattice_core.specs.Combine.{IsPositiveCombination, IsCombinationAt, HasFixedCombination}
+use Rattle.lattice_theory.specs.Combinations.{IsPositiveCombination, IsCombinationAt}
+use Rattle.lattice_core.specs.Combine.{HasFixedCombination}
 
 abbrev first : Affine
 first = record { normal = pos 1 ∷ pos 0 ∷ []; constant = pos 1 }

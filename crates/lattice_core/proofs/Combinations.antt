@@ -8,7 +8,8 @@ use Rattle.lattice_theory.specs.Vector.{entry, dot, scaled, IsPrimitive}
 use Rattle.lattice_theory.specs.Affine.{Affine, value}
 use Rattle.lattice_theory.specs.Size.{absolute_sum, size}
 use Rattle.lattice_theory.proofs.Integers.{products_out, *ℤ-zero, minus_one-*ℤ, linear, positive_nonzero, positive_pos, product_positive, factor_zero, *ℤ_assoc}
-use Rattle.lattice_theory.proofs.Vectors.{combined, dot_comm, dot-scaled_left, dot-combined_left, entry-scaled, entry-combined, length-scaled, length-combined, same_from_entries, zero_from_entries, entries_from_zero}
+use Rattle.lattice_theory.proofs.Vectors.{dot_comm, entry-scaled, length-scaled, same_from_entries, zero_from_entries, entries_from_zero}
+use Rattle.lattice_theory.proofs.Combinations.{combination_value}
 use Rattle.lattice_theory.proofs.Divisibility.{primitive_nonzero, primitive_same}
 use Rattle.lattice_theory.proofs.Members.{Each, empty, more, each_from_all}
 use Rattle.normal_bounds.specs.Bounds.{EntriesWithin}
@@ -18,7 +19,8 @@ use Rattle.normal_bounds.proofs.Numbers.{values_fit_lem}
 use Rattle.normal_bounds.proofs.Products.{functions_fit_lem, combine_products_fit_lem}
 use Rattle.lattice_core.specs.Limits.{size_limit_of}
 use Rattle.lattice_core.specs.Divisors.{IsPrimitivePart}
-use Rattle.lattice_core.specs.Combine.{IsPositiveCombination, IsCombinationAt, AreOpposite, twice_limit, IsSmallAt, IsFixedWithinLimit}
+use Rattle.lattice_theory.specs.Combinations.{IsPositiveCombination, IsCombinationAt}
+use Rattle.lattice_core.specs.Combine.{AreOpposite, twice_limit, IsSmallAt, IsFixedWithinLimit}
 use Rattle.lattice_core.specs.CombineSteps.{IsCrossSum}
 use Rattle.lattice_core.proofs.SizeLimits.{limit_positive}
 
@@ -80,21 +82,8 @@ products_small (x ∷ p) f g b some hf hg e =
 values_cancel : (f g h : Affine) (p : List ℤ) (c : IsPositiveCombination f g h) → length f.normal ≡ length p → length g.normal ≡ length p
     → length h.normal ≡ length p → value h p ≡ pos 0 → pos c.left *ℤ value f p +ℤ pos c.right *ℤ value g p ≡ pos 0
 values_cancel f g h p c df dg dh v =
-    let n = length p in
-    let w = pos c.whole in
-    let l = pos c.left in
-    let r = pos c.right in
-    let same : scaled w h.normal ≡ combined l f.normal r g.normal =
-    same_from_entries _ _ (length-scaled w h.normal ∙ dh ∙ sym (length-combined n l f.normal r g.normal df dg))
-    (λ i. entry-scaled w h.normal i ∙ c.normals i ∙ sym (entry-combined l f.normal r g.normal i)) in
-    let dots = sym (dot-scaled_left w h.normal p) ∙ ap (λ x. dot x p) same ∙ dot-combined_left l f.normal r g.normal p in
-    cancels w l r (dot h.normal p) (dot f.normal p) (dot g.normal p) h.constant f.constant g.constant dots c.constants v
-  where
-    cancels : (w l r dh df dg ch cf cg : ℤ) → w *ℤ dh ≡ l *ℤ df +ℤ r *ℤ dg → w *ℤ ch ≡ l *ℤ cf +ℤ r *ℤ cg → dh +ℤ ch ≡ pos 0
-        → l *ℤ (df +ℤ cf) +ℤ r *ℤ (dg +ℤ cg) ≡ pos 0
-    cancels w l r dh df dg ch cf cg e k z =
-        let z' = simp products_out at (ap (λ (a : ℤ). w *ℤ a) z) in
-        simp products_out (omega (arith, linear))
+    sym (combination_value (pos c.whole) (pos c.left) (pos c.right) f g h (length p) df dg dh c.normals c.constants p)
+    ∙ ap (λ (z : ℤ). pos c.whole *ℤ z) v ∙ *ℤ-zero (pos c.whole)
 
 -- the multiples of opposite values that cancel out, in absolute values
 balance : (l r : ℕ) (a b : ℤ) → AreOpposite a b → pos l *ℤ a +ℤ pos r *ℤ b ≡ pos 0 → pos r *ℤ pos (nat_abs b) ≡ pos l *ℤ pos (nat_abs a)

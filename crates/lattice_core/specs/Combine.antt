@@ -1,25 +1,10 @@
--- The function through a point that two functions combine to. This project's own.
-use Rattle.std.specs.Prelude.{◌≡◌, ◌⊎◌, ℕ, ◌*◌, ◌^◌, ◌-◌, ◌<◌, ◌≤◌, List, length, ℤ, pos, ◌+ℤ◌, ◌*ℤ◌, ◌<ℤ◌, nat_abs}
-use Rattle.lattice_theory.specs.Vector.{entry, IsPrimitive, HaveDimension}
+-- What the combination of two functions at a point is worked out under. This project's own.
+use Rattle.std.specs.Prelude.{◌≡◌, ◌⊎◌, ℕ, ◌*◌, ◌^◌, ◌-◌, ◌≤◌, List, length, ℤ, pos, ◌<ℤ◌, nat_abs}
+use Rattle.lattice_theory.specs.Vector.{HaveDimension}
 use Rattle.lattice_theory.specs.Affine.{Affine, value}
+use Rattle.lattice_theory.specs.Combinations.{IsCombinationAt}
 use Rattle.normal_bounds.specs.Bounds.{EntriesWithin, IsFixedBy}
 use Rattle.lattice_core.specs.Limits.{size_limit_of, IsSized}
-
--- h is a positive rational combination of f and g: a h = b f + c g with positive integers a, b and c
-pub record IsPositiveCombination (f g h : Affine) : Type 0 where
-  pub whole : ℕ
-  pub left : ℕ
-  pub right : ℕ
-  pub positive : (0 < whole) × (0 < left) × (0 < right)
-  pub normals : (i : ℕ) → pos whole *ℤ entry h.normal i ≡ pos left *ℤ entry f.normal i +ℤ pos right *ℤ entry g.normal i
-  pub constants : pos whole *ℤ h.constant ≡ pos left *ℤ f.constant +ℤ pos right *ℤ g.constant
-
--- h is the combination of f and g at p: it vanishes there, and the greatest common divisor of its normal is 1
-pub record IsCombinationAt (f g : Affine) (p : List ℤ) (h : Affine) : Type 0 where
-  pub dimension : length h.normal ≡ length p
-  pub primitive : IsPrimitive h.normal
-  pub vanishes : value h p ≡ pos 0
-  pub combination : IsPositiveCombination f g h
 
 -- one is positive and the other is negative
 abbrev pub AreOpposite : ℤ → ℤ → Type 0

@@ -4,7 +4,8 @@ ghost use Rattle.std.specs.List.{All};
 ghost use Rattle.lattice_theory.specs.Vector.{dot, entry};
 ghost use Rattle.lattice_theory.specs.Affine.{Affine, value};
 ghost use Rattle.lattice_theory.specs.Size.{absolute_sum};
-ghost use Rattle.lattice_core.specs.Combine.{AreOpposite, HasFixedCombination, IsCombinationAt, IsSmallAt};
+ghost use Rattle.lattice_theory.specs.Combinations.{IsCombinationAt};
+ghost use Rattle.lattice_core.specs.Combine.{AreOpposite, HasFixedCombination, IsSmallAt};
 ghost use Rattle.lattice_core.specs.CombineSteps.{IsCrossSum};
 ghost use Rattle.lattice_core.specs.declared.limits.TheConstants.{MOST_COORDINATES};
 

@@ -1,7 +1,7 @@
 //! A worked example.
 ghost use Rattle.std.specs.Prelude.{pos};
 ghost use Rattle.lattice_theory.specs.Examples.{in_plane, function, minus1};
-ghost use Rattle.lattice_core.specs.Combine.{IsPositiveCombination, IsCombinationAt};
+ghost use Rattle.lattice_theory.specs.Combinations.{IsPositiveCombination, IsCombinationAt};
 
 /// An example, and no work: the combination of x + 1 and -x - y + 1 at the point (2, 2), where they are 3 and -3, is their sum -y + 2. It isn't
 /// their difference 2x + y.

@@ -1,7 +1,7 @@
 -- Combinations of affine functions, and functions less a number.
-use Rattle.std.proofs.Common.{◌≡◌, ℕ, List, length, ℤ, ◌+ℤ◌, ◌-ℤ◌, ◌*ℤ◌, arith, pos, ◌∙◌}
+use Rattle.std.proofs.Common.{◌≡◌, ℕ, List, length, ℤ, ◌+ℤ◌, ◌-ℤ◌, ◌*ℤ◌, arith, pos, refl, ◌∙◌}
 use Rattle.lattice_theory.specs.Vector.{entry, dot}
-use Rattle.lattice_theory.specs.Affine.{Affine, value}
+use Rattle.lattice_theory.specs.Affine.{Affine, value, value_over}
 use Rattle.lattice_theory.proofs.Integers.{products_out, linear}
 use Rattle.lattice_theory.proofs.Vectors.{combined, dot-combined_left, entry-combined, length-combined}
 
@@ -20,6 +20,21 @@ pub entry-mixed : (p : ℤ) (f : Affine) (q : ℤ) (g : Affine) (i : ℕ)
     → entry (mixed p f q g).normal i ≡ p *ℤ entry f.normal i +ℤ q *ℤ entry g.normal i
 unfolding mixed
 entry-mixed p f q g i = entry-combined p f.normal q g.normal i
+
+-- its constant
+pub constant-mixed : (p : ℤ) (f : Affine) (q : ℤ) (g : Affine) → (mixed p f q g).constant ≡ p *ℤ f.constant +ℤ q *ℤ g.constant
+unfolding mixed
+constant-mixed p f q g = refl
+
+-- its value over d
+pub value_over-mixed : (p : ℤ) (f : Affine) (q : ℤ) (g : Affine) (x : List ℤ) (d : ℤ)
+    → value_over (mixed p f q g) x d ≡ p *ℤ value_over f x d +ℤ q *ℤ value_over g x d
+unfolding mixed
+value_over-mixed p f q g x d = sum (dot (combined p f.normal q g.normal) x) (dot f.normal x) (dot g.normal x) f.constant g.constant
+    (dot-combined_left p f.normal q g.normal x)
+  where
+    sum : (s a b c e : ℤ) → s ≡ p *ℤ a +ℤ q *ℤ b → s +ℤ d *ℤ (p *ℤ c +ℤ q *ℤ e) ≡ p *ℤ (a +ℤ d *ℤ c) +ℤ q *ℤ (b +ℤ d *ℤ e)
+    sum s a b c e h = rw h (simp products_out (omega (arith, linear)))
 
 -- its value
 pub value-mixed : (p : ℤ) (f : Affine) (q : ℤ) (g : Affine) (x : List ℤ) → value (mixed p f q g) x ≡ p *ℤ value f x +ℤ q *ℤ value g x

@@ -12,6 +12,7 @@ pub mod Vectors
 pub mod Divisibility
 pub mod PrimitiveLaws
 pub mod Functions
+pub mod Combinations
 pub mod FlatUnique
 pub mod ExampleSteps
 pub mod SegmentFacets

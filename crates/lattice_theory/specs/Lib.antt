@@ -4,6 +4,7 @@ pub mod Order
 pub mod Size
 pub mod Hull
 pub mod Facet
+pub mod Combinations
 pub mod Points
 pub mod Grid
 pub mod Laws

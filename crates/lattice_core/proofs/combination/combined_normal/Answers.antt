@@ -1,7 +1,7 @@
 use Rattle.std.proofs.Common.{◌≡◌, ◌≤◌, pos, refl, ◌∙◌, subst}
 use Rattle.std.specs.List.{All}
 use Rattle.lattice_theory.specs.Affine.{Affine}
-use Rattle.lattice_core.specs.Combine.{IsCombinationAt}
+use Rattle.lattice_theory.specs.Combinations.{IsCombinationAt}
 use Rattle.lattice_core.specs.Divisors.{IsPrimitivePart}
 use Rattle.lattice_core.proofs.Combinations.{cross_nonzero, part_is, fixed_small}
 use Rattle.lattice_core.proofs.combination.combined_normal.Goals as goal

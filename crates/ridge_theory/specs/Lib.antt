@@ -1,0 +1,3 @@
+pub mod Ridges
+pub mod Laws
+pub mod Examples
