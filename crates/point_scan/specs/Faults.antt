@@ -13,6 +13,6 @@ pub record HasMorePoints (n : ℕ) (points : List (List ℤ)) (most : ℕ) : Typ
   pub more : most < length lattice
 
 -- too many lattice points are refused by the limit on points, with the limit and one
-abbrev pub IsPointsRefusal : ℕ → List (List ℤ) → Refusal → Type 0
-IsPointsRefusal n points (refusals.Flat f) = ⊥
-IsPointsRefusal n points (refusals.Limit name told) = (name ≡ names.Points) × (told ≡ MOST_POINTS + 1) × HasMorePoints n points MOST_POINTS
+abbrev pub IsScanRefusal : ℕ → List (List ℤ) → Refusal → Type 0
+IsScanRefusal n points (refusals.Flat f) = ⊥
+IsScanRefusal n points (refusals.Limit name told) = (name ≡ names.Points) × (told ≡ MOST_POINTS + 1) × HasMorePoints n points MOST_POINTS

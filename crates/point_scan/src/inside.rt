@@ -6,6 +6,8 @@ ghost use Rattle.lattice_theory.specs.Affine.{value_over as value_over_of};
 ghost use Rattle.lattice_theory.specs.Size.{absolute_sum};
 ghost use Rattle.lattice_theory.specs.Grid.{IsInBox};
 ghost use Rattle.point_scan.specs.ScanSteps.{is_inside as is_inside_of, IsNegativeAlong, IsRuledOut};
+ghost use Rattle.lattice_core.specs.declared.limits.TheConstants.{MOST_COORDINATES};
+ghost use Rattle.point_scan.specs.declared.limits.TheConstants.{MOST_DILATE};
 
 use crate::walk::Walk;
 use lattice_core::{Functional, pair};
@@ -14,9 +16,9 @@ use lattice_core::{Functional, pair};
 fn value_over(f: &Functional, dilate: u32, position: &[i64]) -> i128
     requires dimension { length f.now.normal ≡ length position.now }
     requires constant { nat_abs f.now.constant ≤ 2 ^ 100 }
-    requires most { length position.now ≤ 6 }
+    requires most { length position.now ≤ MOST_COORDINATES }
     requires small { absolute_sum position.now ≤ 2 ^ 33 }
-    requires dilate { dilate ≤ 7 }
+    requires dilate { dilate ≤ MOST_DILATE }
     ensures value { result ≡ value_over_of f.now position.now (pos dilate) }
     ensures bound { nat_abs result ≤ 2 ^ 110 }
 {
@@ -69,11 +71,11 @@ pub(crate) fn ruled_out(facets: &[Functional], dilate: u32, walk: &Walk) -> Opti
     requires inside { IsInBox walk.now.low.items walk.now.high.items walk.now.position.items }
     requires dimension { All (λ f. length f.normal ≡ length walk.now.position.items) facets.now }
     requires constants { All (λ f. nat_abs f.constant ≤ 2 ^ 100) facets.now }
-    requires most { length walk.now.position.items ≤ 6 }
+    requires most { length walk.now.position.items ≤ MOST_COORDINATES }
     requires small { absolute_sum walk.now.position.items ≤ 2 ^ 33 }
     requires small_low { absolute_sum walk.now.low.items ≤ 2 ^ 33 }
     requires small_high { absolute_sum walk.now.high.items ≤ 2 ^ 33 }
-    requires dilate { dilate ≤ 7 }
+    requires dilate { dilate ≤ MOST_DILATE }
     ensures none { IfNone result (is_inside_of facets.now dilate walk.now.position.items ≡ true) }
     ensures some { IfSome result (IsRuledOut facets.now dilate walk.now.low.items walk.now.high.items walk.now.position.items) }
 {

@@ -6,8 +6,10 @@
 #![tactic(auto)]
 
 mod inside;
+mod limits;
 mod points;
 mod spans;
 mod walk;
 
+pub use limits::{MOST_COUNT, MOST_DILATE};
 pub use points::{count_to, scan};

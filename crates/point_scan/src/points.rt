@@ -1,14 +1,15 @@
 //! The lattice points of a polytope and of its dilates.
 
-ghost use Rattle.std.specs.Prelude.{◌≡◌, ◌^◌, ◌≤◌, length, IfOk, IfErr};
+ghost use Rattle.std.specs.Prelude.{◌≡◌, ◌≤◌, length, IfOk, IfErr};
 ghost use Rattle.lattice_theory.specs.Facet.{AreFacetsInAnyOrder};
 ghost use Rattle.lattice_theory.specs.Points.{AreLatticePoints};
-ghost use Rattle.lattice_core.specs.declared.limits.TheConstants.{MOST_POINTS};
+ghost use Rattle.lattice_core.specs.declared.limits.TheConstants.{MOST_COORDINATES, MOST_POINTS};
 ghost use Rattle.lattice_core.specs.Dimensions.{dimension_of};
 ghost use Rattle.lattice_core.specs.PointLists.{AreSolidPoints};
 ghost use Rattle.lattice_core.specs.Stops.{Stops};
 ghost use Rattle.point_scan.specs.Dilates.{CountsDilatePoints};
-ghost use Rattle.point_scan.specs.Faults.{IsPointsRefusal};
+ghost use Rattle.point_scan.specs.Faults.{IsScanRefusal};
+ghost use Rattle.point_scan.specs.declared.limits.TheConstants.{MOST_DILATE, MOST_COUNT};
 
 use crate::inside::ruled_out;
 use crate::walk::Walk;
@@ -18,7 +19,7 @@ use std::alloc::Global;
 /// The point at the position.
 fn point_at(position: &[i64]) -> Point
     requires least { 1 ≤ length position.now }
-    requires most { length position.now ≤ 6 }
+    requires most { length position.now ≤ MOST_COORDINATES }
     ensures { result ≡ position.now }
 {
     match Point::new(position) {
@@ -35,7 +36,7 @@ pub fn scan(alloc: Global, vertices: &[Point], facets: &[Functional]) -> Result<
     requires facets { AreFacetsInAnyOrder (dimension_of vertices.now) vertices.now facets.now }
     ensures points { IfOk result (λ points. AreLatticePoints (dimension_of vertices.now) vertices.now points.items) }
     ensures few { IfOk result (λ points. length points.items ≤ MOST_POINTS) }
-    ensures refused { IfErr result (Stops (IsPointsRefusal (dimension_of vertices.now) vertices.now)) }
+    ensures refused { IfErr result (Stops (IsScanRefusal (dimension_of vertices.now) vertices.now)) }
 {
     let mut walk = Walk::start(vertices, 1);
     let mut points = Vec::new(alloc);
@@ -67,8 +68,8 @@ pub fn count_to(
 ) -> Result<u64, NoMemory>
     requires vertices { AreSolidPoints vertices.now }
     requires facets { AreFacetsInAnyOrder (dimension_of vertices.now) vertices.now facets.now }
-    requires dilate { dilate ≤ 7 }
-    requires limit { limit ≤ 2 ^ 40 }
+    requires dilate { dilate ≤ MOST_DILATE }
+    requires limit { limit ≤ MOST_COUNT }
     ensures { IfOk result (CountsDilatePoints (dimension_of vertices.now) vertices.now dilate limit) }
 {
     let mut walk = Walk::start(vertices, dilate);

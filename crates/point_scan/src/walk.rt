@@ -6,26 +6,29 @@ ghost use Rattle.lattice_theory.specs.Grid.{AgreesTo, IsInBox, Follows};
 ghost use Rattle.lattice_core.specs.Dimensions.{dimension_of};
 ghost use Rattle.lattice_core.specs.PointLists.{AreSizedPoints};
 ghost use Rattle.point_scan.specs.ScanSteps.{PassesOver, AreCorners};
+ghost use Rattle.lattice_core.specs.declared.limits.TheConstants.{MOST_COORDINATES};
+ghost use Rattle.point_scan.specs.declared.limits.TheConstants.{MOST_DILATE};
 
 use crate::spans::span_of;
 use arrayvec::ArrayVec;
-use lattice_core::Point;
+use lattice_core::{MOST_COORDINATES, Point};
 
 /// A place in a box, which is given by its lowest and its highest corner.
 #[derive(Drop)]
 pub(crate) struct Walk {
-    low: ArrayVec<i64, 6>,
-    high: ArrayVec<i64, 6>,
-    position: ArrayVec<i64, 6>,
+    low: ArrayVec<i64, MOST_COORDINATES>,
+    high: ArrayVec<i64, MOST_COORDINATES>,
+    position: ArrayVec<i64, MOST_COORDINATES>,
 }
 
 impl Walk {
-    /// The walk through the least box that holds each point `dilate` times. It stands at the lowest corner.
+    /// The walk through a box that holds each point `dilate` times. In each coordinate it reaches no further than `dilate` times the largest
+    /// absolute value there. The walk stands at the lowest corner.
     pub(crate) fn start(points: &[Point], dilate: u32) -> Walk
         requires points { AreSizedPoints points.now }
-        requires dilate { dilate ≤ 7 }
+        requires dilate { dilate ≤ MOST_DILATE }
         ensures least { 1 ≤ dimension_of points.now }
-        ensures most { dimension_of points.now ≤ 6 }
+        ensures most { dimension_of points.now ≤ MOST_COORDINATES }
         ensures corners { AreCorners (dimension_of points.now) points.now dilate result.low.items result.high.items }
         ensures position { result.position.items ≡ result.low.items }
     {
