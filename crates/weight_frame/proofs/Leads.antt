@@ -1,6 +1,5 @@
 -- Vectors in echelon form: the first entry of each that isn't 0 is positive and stands behind that of the vector before. The recursion
--- keeps
--- this form, and in it the coefficients of a combination are determined.
+-- keeps this form, and in it the coefficients of a combination are determined.
 use Rattle.std.proofs.Common.{◌≡◌, ℕ, suc, ◌<◌, ◌≤◌, List, [], ◌∷◌, ◌++◌, length, map, ℤ, pos, negsuc, ◌+ℤ◌, ◌*ℤ◌, neg_ℤ, ◌<ℤ◌, refl, sym, ap, ap₂, ◌∙◌, arith}
 use Rattle.lattice_theory.specs.Vector.{entry, dot}
 use Rattle.lattice_theory.proofs.Integers.{products_out, linear, product_positive, positive_pos, positive_nonzero, cancel_left, *ℤ-zero, *ℤ_comm}

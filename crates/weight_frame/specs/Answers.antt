@@ -1,7 +1,7 @@
 -- What the calls on frames answer. This project's own.
 use Rattle.std.specs.Prelude.{◌≡◌, ◌⊎◌, ℕ, ◌<◌, ◌≤◌, List, length, ℤ}
 use Rattle.lattice_core.specs.Weights.{Weighted, columns_of, IsInLattice, AreWellFormed, AreWithinLimits}
-use Rattle.lattice_core.specs.declared.limits.TheConstants.{MOST_COORDINATE}
+use Rattle.lattice_core.specs.declared.limits.TheConstants.{MOST_COORDINATE, MOST_COORDINATES}
 use Rattle.weight_frame.specs.Frame.{IsRecursion, AreCoordinates, largest, AreWithinEntryLimit, IsFirstAboveLimit}
 use Rattle.weight_frame.specs.declared.frame.FrameFault.{FrameFault}
 use Rattle.weight_frame.specs.declared.frame.FrameFault.TheVariants as faults
@@ -21,12 +21,12 @@ pub record IsFrameWithinLimit (systems : List Weighted) (vectors : List (List �
   pub recursion : IsRecursion systems vectors made
   pub within : AreWithinEntryLimit made
 
--- no entry is above the limit, and the frame has n vectors, which are none or more than 6
+-- no entry is above the limit, and the frame has n vectors, which are none or more than a point has coordinates at most
 pub record HasOtherDimension (systems : List Weighted) (n : ℕ) : Type 0 where
   pub vectors : List (List ℤ)
   pub frame : IsFrameWithinLimit systems vectors
   pub count : n ≡ length vectors
-  pub outside : (n ≡ 0) ⊎ (6 < n)
+  pub outside : (n ≡ 0) ⊎ (MOST_COORDINATES < n)
 
 -- why there is no frame: an entry above the limit, then the number of vectors, or want of memory
 abbrev pub IsFrameFault : List Weighted → FrameFault → Type 0
@@ -45,7 +45,7 @@ pub record IsHandedOut (frame : Framed) : Type 0 where
   pub limited : AreWithinLimits frame.systems
   pub is_frame : IsFrameWithinLimit frame.systems frame.vectors
   pub least : 1 ≤ length frame.vectors
-  pub most : length frame.vectors ≤ 6
+  pub most : length frame.vectors ≤ MOST_COORDINATES
 
 -- x is in the lattice, and these are its coordinates
 pub record HasCoordinates (frame : Framed) (x coordinates : List ℤ) : Type 0 where

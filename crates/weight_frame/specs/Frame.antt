@@ -37,8 +37,7 @@ pub record AreLeastMultipliers (v : ℤ) (after g p : ℕ) (q : ℤ) (s : ℕ) (
   pub least : s < p
 
 -- The step of the recursion at a vector u of value v. Behind it stand the vector h and the greatest common divisor `after` of the values
--- there;
--- the greatest common divisor with v is g. The step makes a list of at most one vector k, and the next h.
+-- there; the greatest common divisor with v is g. The step makes a list of at most one vector k, and the next h.
 pub data Exchange (n : ℕ) (u : List ℤ) (v : ℤ) (h : List ℤ) (after g : ℕ) : List (List ℤ) → List ℤ → Type 0 where
   -- both are 0: k is u, and h is the zero vector
   keeps : {zero : List ℤ} → after ≡ 0 → v ≡ pos 0 → IsZeroVector n zero → Exchange n u v h after g (u ∷ []) zero

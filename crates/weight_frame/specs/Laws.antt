@@ -1,8 +1,10 @@
 -- The laws of frames, as statements. This project's own.
-use Rattle.std.specs.Prelude.{◌≡◌, ℕ, ◌^◌, ◌<◌, List, ◌∷◌, ℤ}
+use Rattle.std.specs.Prelude.{◌≡◌, ℕ, ◌^◌, ◌<◌, ◌≤◌, List, ◌∷◌, length, ℤ}
 use Rattle.std.specs.List.{Contains}
+use Rattle.lattice_core.specs.declared.limits.TheConstants.{MOST_COORDINATES}
 use Rattle.lattice_core.specs.Weights.{Weighted, weighted_degree, AreWellFormed, AreWithinLimits}
 use Rattle.weight_frame.specs.Frame.{IsFrame, IsRecursion, IsGreatestDivisor, degrees_of, AreLeastMultipliers, AreWithinEntryLimit}
+use Rattle.weight_frame.specs.Answers.{IsFrameWithinLimit, ExceedsEntryLimit, HasOtherDimension}
 use Rattle.weight_frame.specs.Bases.{IsIntegerBasis}
 use Rattle.weight_frame.specs.StepSizes.{IsStepBelow}
 
@@ -18,6 +20,16 @@ FrameIsUnique = (systems : List Weighted) (vectors made others others_made : Lis
 -- the frame is an integer basis of the weight lattice
 abbrev pub FrameIsBasis : Type 0
 FrameIsBasis = (systems : List Weighted) (vectors : List (List ℤ)) → IsFrame systems vectors → IsIntegerBasis systems vectors
+
+-- systems with a frame within the limit don't exceed the limit on entries, whatever is told
+abbrev pub FrameExceedsNothing : Type 0
+FrameExceedsNothing = (systems : List Weighted) (vectors : List (List ℤ)) (told : ℕ) → IsFrameWithinLimit systems vectors
+    → ExceedsEntryLimit systems told → ⊥
+
+-- and where the frame has as many vectors as a point has coordinates, it has no other dimension
+abbrev pub FrameHasOneDimension : Type 0
+FrameHasOneDimension = (systems : List Weighted) (vectors : List (List ℤ)) (n : ℕ) → IsFrameWithinLimit systems vectors
+    → 1 ≤ length vectors → length vectors ≤ MOST_COORDINATES → HasOtherDimension systems n → ⊥
 
 -- a step that exchanges, with vectors within the limit, has numbers below 2^112 in size
 abbrev pub StepsAreBounded : Type 0

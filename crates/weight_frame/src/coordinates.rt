@@ -1,11 +1,10 @@
 //! Combinations of vectors, and the coordinates of a vector that is one.
-ghost use Rattle.std.specs.Prelude.{◌≡◌, ◌↔◌, ℕ, ◌^◌, ◌<◌, ◌≤◌, List, length, map, ℤ, pos, nat_abs, ◌-ℤ◌, ◌<ℤ◌, IsTrue, MatchOption};
+ghost use Rattle.std.specs.Prelude.{◌≡◌, ◌↔◌, ℕ, ◌+◌, ◌^◌, ◌<◌, ◌≤◌, List, length, map, ℤ, pos, nat_abs, ◌-ℤ◌, ◌<ℤ◌, IsTrue, MatchOption};
 ghost use Rattle.std.specs.Int.RustNames.{int_div};
 ghost use Rattle.std.specs.List.{All};
 ghost use Rattle.lattice_theory.specs.Vector.{entry, dot};
 ghost use Rattle.lattice_core.specs.Weights.{weighted_all, columns_of, IsInLattice, AreWellFormed, AreWithinLimits};
-ghost use Rattle.lattice_core.specs.declared.limits.TheConstants.{MOST_FRAME_ENTRY};
-ghost use Rattle.lattice_core.specs.declared.limits.TheConstants.{MOST_COORDINATE};
+ghost use Rattle.lattice_core.specs.declared.limits.TheConstants.{MOST_COORDINATES, MOST_DEGREE, MOST_COORDINATE, MOST_FRAME_ENTRY};
 ghost use Rattle.weight_frame.specs.Frame.{IsIntegerCombination, AreWithinEntryLimit, largest};
 ghost use Rattle.weight_frame.specs.steps.Reached.{AreSmallVectors};
 ghost use Rattle.weight_frame.specs.steps.Echelon.{Leads};
@@ -16,7 +15,7 @@ use crate::multiples::product;
 use crate::values::weighted_value;
 use crate::vector::FrameVector;
 use arrayvec::ArrayVec;
-use lattice_core::{MOST_COORDINATE, Point, WeightSystem, narrowed_entry};
+use lattice_core::{MOST_COORDINATE, MOST_COORDINATES, Point, WeightSystem, narrowed_entry};
 
 /// What is known of a vector's coordinates in a frame.
 #[derive(Debug, Drop, PartialEq, Eq)]
@@ -32,7 +31,7 @@ pub enum Coordinates {
 /// The entry at the place `i` of the sum of the first vectors, each times its coefficient.
 fn combined_entry(coefficients: &[i64], vectors: &[FrameVector], i: usize) -> i128
     requires count { length coefficients.now ≤ length vectors.now }
-    requires most { length vectors.now ≤ 6 }
+    requires most { length vectors.now ≤ MOST_COORDINATES }
     requires dimension { All (λ b. i < length b) vectors.now }
     requires entries { AreWithinEntryLimit vectors.now }
     requires coefficients { largest coefficients.now ≤ MOST_COORDINATE }
@@ -49,7 +48,7 @@ fn combined_entry(coefficients: &[i64], vectors: &[FrameVector], i: usize) -> i1
 /// Writes the sum of the vectors, each times its coefficient.
 pub(crate) fn combine(coefficients: &[i64], vectors: &[FrameVector], out: &mut [i128])
     requires count { length coefficients.now ≤ length vectors.now }
-    requires most { length vectors.now ≤ 6 }
+    requires most { length vectors.now ≤ MOST_COORDINATES }
     requires small { AreSmallVectors (length out.old) vectors.now }
     requires coefficients { largest coefficients.now ≤ MOST_COORDINATE }
     ensures { IsIntegerCombination (length out.old) coefficients.now vectors.now out.new }
@@ -83,7 +82,7 @@ fn quotient_of(a: i64, b: i128, divisor: i64) -> i128
 /// The next coordinate of `x`, where the first ones are found.
 fn next_coordinate(x: &[i64], vectors: &[FrameVector], found: &[i64]) -> i128
     requires some { length found.now < length vectors.now }
-    requires most { length vectors.now ≤ 6 }
+    requires most { length vectors.now ≤ MOST_COORDINATES }
     requires small { AreSmallVectors (length x.now) vectors.now }
     requires leads { Leads 0 vectors.now }
     requires found { largest found.now ≤ MOST_COORDINATE }
@@ -101,8 +100,8 @@ fn next_coordinate(x: &[i64], vectors: &[FrameVector], found: &[i64]) -> i128
 }
 
 /// The coordinates of a combination of the vectors. It is `None` where one of them is above the limit.
-fn coordinates_of(x: &[i64], vectors: &[FrameVector]) -> Option<ArrayVec<i64, 6>>
-    requires most { length vectors.now ≤ 6 }
+fn coordinates_of(x: &[i64], vectors: &[FrameVector]) -> Option<ArrayVec<i64, MOST_COORDINATES>>
+    requires most { length vectors.now ≤ MOST_COORDINATES }
     requires small { AreSmallVectors (length x.now) vectors.now }
     requires leads { Leads 0 vectors.now }
     ensures { MatchOption result (IsLargeSomewhere vectors.now x.now) (λ found. AreFound vectors.now x.now found.items) }
@@ -138,7 +137,7 @@ fn is_inside(systems: &[WeightSystem], x: &[i64]) -> bool
 pub(crate) fn answer(systems: &[WeightSystem], vectors: &[FrameVector], x: &[i64]) -> Coordinates
     requires frame { IsHandedOut (record { systems = weighted_all systems.now; vectors = vectors.now }) }
     requires columns { length x.now ≡ columns_of (weighted_all systems.now) }
-    requires small { All (λ a. nat_abs a ≤ 32_768) x.now }
+    requires small { All (λ a. nat_abs a ≤ MOST_DEGREE + 1) x.now }
     ensures { IsAnswer (record { systems = weighted_all systems.now; vectors = vectors.now }) x.now result }
 {
     if !is_inside(systems, x) {

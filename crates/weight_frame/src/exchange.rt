@@ -1,6 +1,6 @@
 //! One step of the recursion, at one vector.
 ghost use Rattle.std.specs.Prelude.{◌≡◌, ℕ, ◌^◌, ◌<◌, ◌≤◌, length, nat_abs, neg_ℤ, MatchResult};
-ghost use Rattle.lattice_core.specs.declared.limits.TheConstants.{MOST_FRAME_ENTRY};
+ghost use Rattle.lattice_core.specs.declared.limits.TheConstants.{MOST_WEIGHTS, MOST_FRAME_ENTRY};
 ghost use Rattle.weight_frame.specs.Frame.{largest};
 ghost use Rattle.weight_frame.specs.steps.Reached.{listed, IsStep, IsStepAbove};
 
@@ -19,7 +19,7 @@ pub(crate) struct Step {
 /// The step at the vector `u` of this value, where the values behind are 0.
 fn first_step(u: &FrameVector, value: i64, h: &FrameVector) -> Step
     requires within { largest u.now ≤ MOST_FRAME_ENTRY }
-    requires most { length u.now ≤ 12 }
+    requires most { length u.now ≤ MOST_WEIGHTS }
     requires value { nat_abs value < 2 ^ 55 }
     ensures { IsStep (length u.now) u.now value h.now 0 (listed result.kept) result.last result.divisor }
 {
@@ -86,7 +86,7 @@ pub(crate) fn stepped(
     after: u64,
 ) -> Result<Step, u128>
     requires same { length u.now ≡ length h.now }
-    requires most { length u.now ≤ 12 }
+    requires most { length u.now ≤ MOST_WEIGHTS }
     requires within { largest u.now ≤ MOST_FRAME_ENTRY }
     requires last_within { largest h.now ≤ MOST_FRAME_ENTRY }
     requires value { nat_abs value < 2 ^ 55 }

@@ -1,9 +1,9 @@
 //! Frames.
-ghost use Rattle.std.specs.Prelude.{◌≡◌, ℕ, ◌^◌, ◌<◌, ◌≤◌, [], length, nat_abs, slice_index_or, IfOk, OnOk, IfErr};
+ghost use Rattle.std.specs.Prelude.{◌≡◌, ℕ, ◌+◌, ◌<◌, ◌≤◌, [], length, nat_abs, slice_index_or, IfOk, OnOk, IfErr};
 ghost use Rattle.std.specs.List.{All};
 ghost use Rattle.lattice_theory.specs.Vector.{entry};
 ghost use Rattle.lattice_core.specs.Weights.{weighted_all, columns_of, AreWellFormed, AreWithinLimits};
-ghost use Rattle.lattice_core.specs.declared.limits.TheConstants.{MOST_FRAME_ENTRY};
+ghost use Rattle.lattice_core.specs.declared.limits.TheConstants.{MOST_COORDINATES, MOST_WEIGHTS, MOST_DEGREE, MOST_COORDINATE, MOST_FRAME_ENTRY};
 ghost use Rattle.weight_frame.specs.declared.frame.FrameFault.TheVariants as FrameFault;
 ghost use Rattle.weight_frame.specs.Answers.{IsFrameWithinLimit, ExceedsEntryLimit, HasOtherDimension, IsFrameFault, IsHandedOut, IsAnswer};
 ghost use Rattle.weight_frame.specs.Frame.{IsIntegerCombination};
@@ -12,7 +12,7 @@ use crate::coordinates::{Coordinates, answer, combine};
 use crate::systems::frame_vectors;
 use crate::vector::FrameVector;
 use arrayvec::ArrayVec;
-use lattice_core::{Point, WeightSystem};
+use lattice_core::{MOST_COORDINATES, MOST_WEIGHTS, Point, WeightSystem};
 use std::alloc::{AllocError, AllocFailed, Global};
 use std::marker::Model;
 
@@ -21,7 +21,7 @@ use std::marker::Model;
 #[derive(Drop)]
 pub struct Frame {
     systems: Vec<WeightSystem>,
-    vectors: ArrayVec<FrameVector, 12>,
+    vectors: ArrayVec<FrameVector, MOST_WEIGHTS>,
 }
 
 impl Model for Frame {
@@ -87,7 +87,7 @@ pub fn frame_of(alloc: Global, systems: &[WeightSystem]) -> Result<Frame, FrameF
     ensures systems { IfOk result (λ f. f.systems ≡ weighted_all systems.now) }
     ensures frame { IfOk result (λ f. IsFrameWithinLimit (weighted_all systems.now) f.vectors) }
     ensures least { IfOk result (λ f. 1 ≤ length f.vectors) }
-    ensures most { IfOk result (λ f. length f.vectors ≤ 6) }
+    ensures most { IfOk result (λ f. length f.vectors ≤ MOST_COORDINATES) }
     ensures entries { OnOk result ((told : ℕ) → ExceedsEntryLimit (weighted_all systems.now) told → ⊥) }
     ensures dimension { OnOk result ((n : ℕ) → HasOtherDimension (weighted_all systems.now) n → ⊥) }
     ensures fault { IfErr result (IsFrameFault (weighted_all systems.now)) }
@@ -97,7 +97,7 @@ pub fn frame_of(alloc: Global, systems: &[WeightSystem]) -> Result<Frame, FrameF
         Err(told) => return Err(FrameFault::Entry(told)),
     };
     let n = vectors.len();
-    if n == 0 || n > 6 {
+    if n == 0 || n > MOST_COORDINATES {
         return Err(FrameFault::Dim(n as u32));
     }
     let systems = copied_systems(alloc, systems)?;
@@ -109,7 +109,7 @@ impl Frame {
     pub fn dim(&self) -> usize
         ensures value { result ≡ length self.now.vectors }
         ensures least { 1 ≤ result }
-        ensures most { result ≤ 6 }
+        ensures most { result ≤ MOST_COORDINATES }
         ensures frame { IsHandedOut self.now }
     {
         self.vectors.len()
@@ -118,7 +118,7 @@ impl Frame {
     /// The number of entries of a vector, which is that of weights of a system, at most 12.
     pub fn columns(&self) -> usize
         ensures value { result ≡ columns_of self.now.systems }
-        ensures most { result ≤ 12 }
+        ensures most { result ≤ MOST_WEIGHTS }
     {
         self.systems[0].weights.len()
     }
@@ -133,11 +133,11 @@ impl Frame {
         i128::from(self.vectors[j].entries()[i])
     }
 
-    /// What is known of the coordinates of a vector with an entry for each weight, each at most 32,768 in size: they are told where the vector
-    /// is in the lattice and all of them are at most 1,073,741,824 in size. It takes no memory.
+    /// What is known of the coordinates of a vector with an entry for each weight, each at most 32,768 in size, which is the largest degree and
+    /// one: they are told where the vector is in the lattice and all of them are at most 1,073,741,824 in size. It takes no memory.
     pub fn to_frame(&self, x: &[i64]) -> Coordinates
         requires columns { length x.now ≡ columns_of self.now.systems }
-        requires small { All (λ a. nat_abs a ≤ 32_768) x.now }
+        requires small { All (λ a. nat_abs a ≤ MOST_DEGREE + 1) x.now }
         ensures { IsAnswer self.now x.now result }
     {
         answer(&self.systems, self.vectors.as_slice(), x)
@@ -148,7 +148,7 @@ impl Frame {
     pub fn from_frame(&self, y: &Point, out: &mut [i128])
         requires dimension { length y.now ≡ length self.now.vectors }
         requires columns { length out.old ≡ columns_of self.now.systems }
-        requires small { All (λ a. nat_abs a ≤ 2 ^ 30) y.now }
+        requires small { All (λ a. nat_abs a ≤ MOST_COORDINATE) y.now }
         ensures { IsIntegerCombination (columns_of self.now.systems) y.now self.now.vectors out.new }
     {
         combine(y.entries(), self.vectors.as_slice(), out);

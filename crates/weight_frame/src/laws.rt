@@ -1,5 +1,5 @@
 //! What holds of frames, as laws.
-ghost use Rattle.weight_frame.specs.Laws.{FrameExists, FrameIsUnique, FrameIsBasis, StepsAreBounded};
+ghost use Rattle.weight_frame.specs.Laws.{FrameExists, FrameIsUnique, FrameIsBasis, FrameExceedsNothing, FrameHasOneDimension, StepsAreBounded};
 
 /// The systems have a frame: the recursion can be carried out.
 pub fn frame_exists()
@@ -14,6 +14,13 @@ pub fn frame_is_unique()
 /// Every vector of the weight lattice is exactly one integer combination of the frame, and every such combination is in the lattice.
 pub fn frame_is_basis()
     ensures { FrameIsBasis }
+{}
+
+/// Systems with a frame within the limits aren't refused: no vector of the recursion has an entry above the limit, and the number of the
+/// frame's vectors is none that is refused.
+pub fn frame_is_refused_for_nothing()
+    ensures entries { FrameExceedsNothing }
+    ensures dimension { FrameHasOneDimension }
 {}
 
 /// A step of the recursion that exchanges vectors, since the divisor behind it isn't 0, has no number of 2^112 or more in size where its vectors

@@ -1,13 +1,13 @@
 //! Sums of multiples of two vectors, as far as their entries are within the limit.
 ghost use Rattle.std.specs.Prelude.{◌≡◌, ℕ, ◌^◌, ◌<◌, ◌≤◌, List, length, ℤ, nat_abs, ◌+ℤ◌, ◌*ℤ◌, MatchResult};
 ghost use Rattle.std.specs.List.{All};
-ghost use Rattle.lattice_core.specs.declared.limits.TheConstants.{MOST_FRAME_ENTRY};
+ghost use Rattle.lattice_core.specs.declared.limits.TheConstants.{MOST_WEIGHTS, MOST_FRAME_ENTRY};
 ghost use Rattle.weight_frame.specs.Frame.{IsSumOfMultiples, largest};
 ghost use Rattle.weight_frame.specs.steps.Sums.{IsSmallSum, IsLargeSum};
 
 use crate::vector::FrameVector;
 use arrayvec::ArrayVec;
-use lattice_core::{MOST_FRAME_ENTRY, narrowed_entry};
+use lattice_core::{MOST_FRAME_ENTRY, MOST_WEIGHTS, narrowed_entry};
 
 /// The product of a multiplier and an entry.
 pub(crate) fn product(p: i128, a: i64) -> i128
@@ -31,9 +31,9 @@ fn entry_sum(p: i128, a: i64, q: i128, b: i64) -> i128
 }
 
 /// The entries of `p x + q y`.
-fn sum_entries(p: i128, x: &[i64], q: i128, y: &[i64]) -> ArrayVec<i128, 12>
+fn sum_entries(p: i128, x: &[i64], q: i128, y: &[i64]) -> ArrayVec<i128, MOST_WEIGHTS>
     requires same { length x.now ≡ length y.now }
-    requires most { length x.now ≤ 12 }
+    requires most { length x.now ≤ MOST_WEIGHTS }
     requires first { nat_abs p ≤ 2 ^ 55 }
     requires second { nat_abs q ≤ 2 ^ 55 }
     requires left { largest x.now ≤ MOST_FRAME_ENTRY }
@@ -61,7 +61,7 @@ fn largest_of(x: &[i128]) -> u128
 
 /// The vector with these entries.
 fn narrowed_entries(x: &[i128]) -> FrameVector
-    requires most { length x.now ≤ 12 }
+    requires most { length x.now ≤ MOST_WEIGHTS }
     requires within { largest x.now ≤ MOST_FRAME_ENTRY }
     ensures { result ≡ x.now }
 {

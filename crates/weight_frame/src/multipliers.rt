@@ -1,9 +1,9 @@
 //! Least multipliers, found by Euclid's steps.
-ghost use Rattle.std.specs.Prelude.{◌≡◌, ℕ, ◌^◌, ◌+◌, ◌*◌, ◌<◌, ◌≤◌, ℤ, pos, nat_abs, ◌+ℤ◌, ◌*ℤ◌, ◌-ℤ◌};
+ghost use Rattle.std.specs.Prelude.{◌≡◌, ◌^◌, ◌*◌, ◌<◌, ℤ, pos, nat_abs, ◌*ℤ◌, ◌-ℤ◌};
 ghost use Rattle.std.specs.Int.{int_rem_euclid};
 ghost use Rattle.std.specs.Int.RustNames.{int_div};
 ghost use Rattle.weight_frame.specs.Frame.{AreLeastMultipliers};
-ghost use Rattle.weight_frame.specs.steps.Euclid.{IsCongruent, IsBezout};
+ghost use Rattle.weight_frame.specs.steps.Euclid.{IsBezout};
 
 /// The greatest common divisor of two numbers and a multiplier of the first.
 #[derive(Drop)]

@@ -1,17 +1,18 @@
 //! The vectors of the recursion, which lie in the value itself.
 ghost use Rattle.std.specs.Prelude.{◌≡◌, ◌<◌, ◌≤◌, length, negsuc, ⊤};
 ghost use Rattle.lattice_theory.specs.Vector.{scaled, IsUnitVector};
-ghost use Rattle.lattice_core.specs.declared.limits.TheConstants.{MOST_FRAME_ENTRY};
+ghost use Rattle.lattice_core.specs.declared.limits.TheConstants.{MOST_WEIGHTS, MOST_FRAME_ENTRY};
 ghost use Rattle.weight_frame.specs.Frame.{IsZeroVector, largest};
 
 use arrayvec::ArrayVec;
+use lattice_core::MOST_WEIGHTS;
 use std::default::Default;
 use std::marker::Model;
 
 /// A vector of at most 12 integers. Contracts see the list of its entries.
 #[derive(Drop)]
 pub(crate) struct FrameVector {
-    entries: ArrayVec<i64, 12>,
+    entries: ArrayVec<i64, MOST_WEIGHTS>,
 }
 
 impl Model for FrameVector {
@@ -34,7 +35,7 @@ impl Default for FrameVector {
 
 impl FrameVector {
     /// The vector with these entries.
-    pub(crate) fn new(entries: ArrayVec<i64, 12>) -> FrameVector
+    pub(crate) fn new(entries: ArrayVec<i64, MOST_WEIGHTS>) -> FrameVector
         ensures { result ≡ entries.items }
     {
         FrameVector { entries }
@@ -43,7 +44,7 @@ impl FrameVector {
     /// All entries, in order.
     pub(crate) fn entries(&self) -> &[i64]
         ensures value { result.now ≡ self.now }
-        ensures most { length result.now ≤ 12 }
+        ensures most { length result.now ≤ MOST_WEIGHTS }
     {
         self.entries.as_slice()
     }
@@ -61,7 +62,7 @@ impl FrameVector {
 
 /// The vector of `n` entries 0.
 pub(crate) fn zero_vector(n: usize) -> FrameVector
-    requires { n ≤ 12 }
+    requires { n ≤ MOST_WEIGHTS }
     ensures zero { IsZeroVector n result }
     ensures within { largest result ≤ MOST_FRAME_ENTRY }
 {
@@ -75,7 +76,7 @@ pub(crate) fn zero_vector(n: usize) -> FrameVector
 /// The unit vector of `n` entries with 1 at the place `i`.
 pub(crate) fn unit_vector(n: usize, i: usize) -> FrameVector
     requires within { i < n }
-    requires most { n ≤ 12 }
+    requires most { n ≤ MOST_WEIGHTS }
     ensures unit { IsUnitVector n i result }
     ensures within { largest result ≤ MOST_FRAME_ENTRY }
 {
