@@ -4,6 +4,7 @@
 use Rattle.std.specs.Prelude.{ℕ, ◌+◌, ◌-◌, ◌*◌, ℤ, true, List, [], ◌∷◌, map, length, take, drop, zero, suc, Some, None, if◌then◌else◌, ◌==◌, nat_le}
 use Rattle.std.specs.List.{count_by}
 use Rattle.lattice_core.specs.Weights.{Weighted, weighted}
+use Rattle.palp_input.specs.declared.reader.TheConstants.{MOST_BYTES}
 use Rattle.palp_input.specs.Pieces.{pieces_of, first_line_end, line_len, line_feed}
 use Rattle.palp_input.specs.Lines.{fault_at, line_read, LineRead, LeadingNumbers, FaultyLine, matrix_read, MatrixRead, AllEntries, FaultyMatrix, MissingEntries}
 use Rattle.palp_input.specs.Systems.{PlacedSystem, SystemsRead, Summed, WrongSum, systems_read, other_length, zero_column, weighted_of}
@@ -95,7 +96,7 @@ next_of text = pieces_item text (pieces_of 0 text)
 
 -- the most bytes of a text
 abbrev pub most_bytes : ℕ
-most_bytes = 67_108_864
+most_bytes = MOST_BYTES
 
 -- the first item of a text of which so many bytes may be read: where the text is longer, it counts
 -- only where it ends within them

@@ -2,12 +2,13 @@
 use Rattle.std.specs.Prelude.{ℕ, ℤ, pos, neg_ℤ, Bool, ◌&&◌, List, [], ◌∷◌, length, if◌then◌else◌, ◌==◌, nat_le, nat_lt}
 use Rattle.std.specs.Str.{all_ascii_digits}
 use Rattle.std.specs.Str.Parse.{digits_value}
+use Rattle.palp_input.specs.declared.numerals.TheConstants.{BOUND}
 use Rattle.palp_input.specs.declared.numerals.Numeral.{Numeral}
 use Rattle.palp_input.specs.declared.numerals.Numeral.TheVariants.{NoNumber, TooLarge, Number}
 
 -- numbers are smaller than this in absolute value
 abbrev pub bound : ℕ
-bound = 1_000_000_000_000_000_000
+bound = BOUND
 
 -- one or more digits
 abbrev pub is_digits : List ℕ → Bool

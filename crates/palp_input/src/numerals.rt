@@ -14,8 +14,8 @@ pub enum Numeral {
     Number(i64),
 }
 
-/// Numbers are smaller in absolute value.
-const BOUND: u64 = 1_000_000_000_000_000_000;
+/// Numbers are smaller in absolute value: 10^18.
+pub const BOUND: u64 = 1_000_000_000_000_000_000;
 
 /// What the token is: a number is one or more digits, with one `-` in front where it is negative.
 pub fn numeral_of(token: &[u8]) -> Numeral

@@ -12,7 +12,7 @@ use std::alloc::Global;
 use std::marker::Model;
 
 /// The most bytes of a text.
-const MOST_BYTES: usize = 67_108_864;
+pub const MOST_BYTES: usize = 67_108_864;
 
 /// The most bytes of one take.
 const CHUNK: usize = 4_096;
