@@ -1,5 +1,4 @@
--- What is said of points, of items and of texts is said once: the laws of this crate, as statements. This project's
--- own.
+-- What is said of points, of items and of texts is said once: the laws of this crate, as statements. This project's own.
 use Rattle.std.specs.Prelude.{◌≡◌, ℕ, ◌<◌, List, [], ℤ, length}
 use Rattle.std.specs.List.{concat}
 use Rattle.lattice_core.specs.declared.faults.Refusal.{Refusal}

@@ -48,8 +48,7 @@ pub record HaveManyPoints (n : ℕ) (points : List (List ℤ)) (told : ℕ) : Ty
   pub told_is : told ≡ MOST_POINTS + 1
 
 -- why points within the size limit are refused: they are flat, or have too many facets, vertices or lattice points. Each is asked where
--- those
--- before it hold.
+-- those before it hold.
 pub data IsRefused (n : ℕ) (points : List (List ℤ)) : Refusal → Type 0 where
   flat : {f : Affine} → IsFlatFunction n points f → IsRefused n points (Flat f)
   many_facets : {told : ℕ} → (IsFlat n points → ⊥) → HasManyFacets n points told → IsRefused n points (Limit Facets told)
