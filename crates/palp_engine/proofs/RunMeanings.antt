@@ -11,7 +11,7 @@ use Rattle.palp_words.specs.Words.{words_of}
 use Rattle.palp_words.specs.declared.fault.WordFault.{WordFault}
 use Rattle.palp_words.specs.declared.job.Job.{Job}
 use Rattle.palp_input.specs.Grammar.{most_bytes, Listed, listed, TextEnd, End, FaultEnd, TooLongEnd, read_text}
-use Rattle.palp_engine.specs.Commands.{IsBuilt, AreBuilt, AreUnbuilt, Says}
+use Rattle.palp_engine.specs.Commands.{IsBuilt, AreBuilt, AreUnbuilt, ReadsText, Says}
 use Rattle.palp_engine.specs.Texts.{outcome_with, HaveReport, of_items, of_unbuilt, of_bad_words, no_front, front_of_items}
 use Rattle.palp_engine.specs.Runs.{HasTaken, IsText, AreUntouched, IsReported, IsReportedInPart, IsDone, IsRefusal, HasReadFault, HasWriteFault, HasEnding, TellsBadWords, TellsNotBuilt, IsComplete}
 use Rattle.palp_engine.specs.RunSteps.{GivesWhole, ReportMeans, PerformedMeans, IsPerformed, OutcomeMeans, IsAnswered}
@@ -36,6 +36,10 @@ end_is endings.End e = refl
 end_is (endings.Fault fault) e = cc
 end_is endings.TooLong e = cc
 
+-- the job that is built reads a text
+built_reads : {words : List (List ℕ)} (built : AreBuilt words) → ReadsText built.job
+built_reads built = subst ReadsText (sym built.built) tt
+
 -- the report of the items that were read is that of the words and the text
 module _ (job : Job) (source source_now : SourceState) (read : Reading) (reads : Reads (Ok read) source source_now)
     (out out_now : SinkState)
@@ -50,7 +54,7 @@ module _ (job : Job) (source source_now : SourceState) (read : Reading) (reads :
       subst (λ (j : Job). IsListReport (Says j) 1 0 (read_text reads.text).items report stop) (sym same)
       (subst (λ (xs : List Listed). IsListReport (Says job) 1 0 xs report stop) (sym reads.means.items_are) r) in
       subst (λ (x : Outcome). HaveReport words reads.text report x)
-      (ap (λ (e : TextEnd). outcome_with stop e) reads.means.ending_is ∙ sym o) (of_items built moved)
+      (ap (λ (e : TextEnd). outcome_with stop e) reads.means.ending_is ∙ sym o) (of_items built (built_reads built) moved)
 
   reported : (outcome : Outcome) → GivesWhole job items (text_end read.ending) out out_now outcome
       → IsReported words source source_now out out_now outcome
@@ -70,7 +74,7 @@ module _ (job : Job) (source source_now : SourceState) (read : Reading) (reads :
     text = reads.text;
     is_text = reads.is_text;
     front = g.front;
-    is_front = front_of_items built
+    is_front = front_of_items built (built_reads built)
         (subst (λ (j : Job). IsListFront (Says j) 0 (read_text reads.text).items g.front) (sym same)
         (subst (λ (xs : List Listed). IsListFront (Says job) 0 xs g.front) (sym reads.means.items_are) g.is_front));
     gives = g.gives;

@@ -60,34 +60,34 @@ module _ (words : List (List ℕ)) (text : List ℕ) where
   -- the report's outcome, by the first refusal
   one_report_of : (report other : List (List ℕ)) (outcome another : Outcome)
       → HaveReport words text report outcome → HaveReport words text other another → (report ≡ other) × (outcome ≡ another)
-  one_report_of _ _ _ _ (of_items {report = p} {stop = s} b r) (of_items {report = q} {stop = t} c u) =
+  one_report_of _ _ _ _ (of_items {report = p} {stop = s} b _ r) (of_items {report = q} {stop = t} c _ u) =
       let one = reports.one_report (Says b.job) (says_one b.job) 1 0 (read_text text).items p q s t r (moved_report b c q t u) in
       (one.0, ap (λ (x : _). outcome_with x (read_text text).ending) one.1)
-  one_report_of _ _ _ _ (of_items b r) (of_unbuilt u) = built_or_unbuilt words b u
-  one_report_of _ _ _ _ (of_items b r) (of_bad_words {fault = f} e) = job_or_fault words b.job f b.gives e
-  one_report_of _ _ _ _ (of_unbuilt u) (of_items b r) = built_or_unbuilt words b u
+  one_report_of _ _ _ _ (of_items b _ r) (of_unbuilt u) = built_or_unbuilt words b u
+  one_report_of _ _ _ _ (of_items b _ r) (of_bad_words {fault = f} e) = job_or_fault words b.job f b.gives e
+  one_report_of _ _ _ _ (of_unbuilt u) (of_items b _ r) = built_or_unbuilt words b u
   one_report_of _ _ _ _ (of_unbuilt u) (of_unbuilt v) = (refl, refl)
   one_report_of _ _ _ _ (of_unbuilt u) (of_bad_words {fault = f} e) = job_or_fault words u.job f u.gives e
-  one_report_of _ _ _ _ (of_bad_words {fault = f} e) (of_items b r) = job_or_fault words b.job f b.gives e
+  one_report_of _ _ _ _ (of_bad_words {fault = f} e) (of_items b _ r) = job_or_fault words b.job f b.gives e
   one_report_of _ _ _ _ (of_bad_words {fault = f} e) (of_unbuilt u) = job_or_fault words u.job f u.gives e
   one_report_of _ _ _ _ (of_bad_words {fault = f} e) (of_bad_words {fault = g} d) = (refl, ap BadWords (same_fault words f g e d))
 
   fronts_of : (front report : List (List ℕ)) (outcome : Outcome) → IsFront words text front → HaveReport words text report outcome
       → IsPrefix (concat front) (concat report)
   fronts_of _ report outcome no_front r = IsPrefix-nothing (concat report)
-  fronts_of _ _ _ (front_of_items {front = f} b i) (of_items {report = q} {stop = t} c u) =
+  fronts_of _ _ _ (front_of_items {front = f} b _ i) (of_items {report = q} {stop = t} c _ u) =
       reports.fronts_are_fronts (Says b.job) (says_one b.job) 0 1 (read_text text).items f q t i (moved_report b c q t u)
-  fronts_of _ _ _ (front_of_items b i) (of_unbuilt u) = built_or_unbuilt words b u
-  fronts_of _ _ _ (front_of_items b i) (of_bad_words {fault = f} e) = job_or_fault words b.job f b.gives e
+  fronts_of _ _ _ (front_of_items b _ i) (of_unbuilt u) = built_or_unbuilt words b u
+  fronts_of _ _ _ (front_of_items b _ i) (of_bad_words {fault = f} e) = job_or_fault words b.job f b.gives e
 
   empty_of : (front report : List (List ℕ)) (outcome : Outcome) → report ≡ [] → IsFront words text front
       → HaveReport words text report outcome
       → front ≡ []
   empty_of _ report outcome n no_front r = refl
-  empty_of _ _ _ n (front_of_items {front = f} b i) (of_items {report = q} {stop = t} c u) =
+  empty_of _ _ _ n (front_of_items {front = f} b _ i) (of_items {report = q} {stop = t} c _ u) =
       reports.empty_front (Says b.job) (says_one b.job) 0 1 (read_text text).items f q t n i (moved_report b c q t u)
-  empty_of _ _ _ n (front_of_items b i) (of_unbuilt u) = built_or_unbuilt words b u
-  empty_of _ _ _ n (front_of_items b i) (of_bad_words {fault = f} e) = job_or_fault words b.job f b.gives e
+  empty_of _ _ _ n (front_of_items b _ i) (of_unbuilt u) = built_or_unbuilt words b u
+  empty_of _ _ _ n (front_of_items b _ i) (of_bad_words {fault = f} e) = job_or_fault words b.job f b.gives e
 
 pub one_report : OneReport
 one_report words text report other outcome another a b = one_report_of words text report other outcome another a b

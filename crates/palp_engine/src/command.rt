@@ -22,8 +22,8 @@ use palp_io::{Sink, Source};
 use palp_words::{Job, PolyFlags, read_words};
 use std::alloc::Global;
 
-/// The flags of the job that is built.
-const PLAIN: PolyFlags = PolyFlags {
+/// The job that is built.
+pub(crate) const PLAIN: Job = Job::Poly(PolyFlags {
     general: true,
     points: false,
     vertices: false,
@@ -34,13 +34,13 @@ const PLAIN: PolyFlags = PolyFlags {
     reflexive_only: false,
     dual_input: false,
     plain: true,
-};
+});
 
 /// Whether the job is `poly` with `-n` alone.
 fn is_built(job: &Job) -> bool
     ensures { IsTrue result ↔ IsBuilt job.now }
 {
-    *job == Job::Poly(PLAIN)
+    *job == PLAIN
 }
 
 /// The outcome of a text that ends so, where no item is refused.

@@ -4,28 +4,14 @@ ghost use Rattle.std.specs.Prelude.{IfOk};
 ghost use Rattle.palp_input.specs.Grammar.{listed};
 ghost use Rattle.palp_input.specs.Items.{IsItem};
 
+use crate::command::PLAIN;
 use crate::reading::read_all;
 use crate::{ItemFault, Outcome, Session, report_item, run};
 use lattice_core::Refusal;
 use palp_input::{Item, Matrix};
 use palp_io::{MemSink, MemSource};
-use palp_words::{Job, PolyFlags};
 use std::alloc::Global;
 use std::test::Fail;
-
-/// The job of `poly -n`.
-const PLAIN: Job = Job::Poly(PolyFlags {
-    general: true,
-    points: false,
-    vertices: false,
-    equations: false,
-    matrix: false,
-    dual_points: false,
-    incidence: false,
-    reflexive_only: false,
-    dual_input: false,
-    plain: true,
-});
 
 fn triangle(alloc: Global) -> Result<Item, Fail>
     ensures { IfOk result (λ item. IsItem (listed item)) }
