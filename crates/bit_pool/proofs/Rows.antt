@@ -2,7 +2,7 @@
 use Rattle.std.proofs.Common.{◌≡◌, ℕ, zero, suc, ◌+◌, ◌*◌, ◌<◌, ◌≤◌, List, [], ◌∷◌, ◌++◌, length, take, drop, get_or, refl, ap, ◌∙◌, sym, subst, arith}
 use Rattle.std.proofs.Math.Nat.{mul-le-mul_right}
 use Rattle.std.proofs.lemmas.List.{drop-drop}
-use Rattle.bit_pool.specs.Stored.{rows_in}
+use Rattle.bit_pool.specs.steps.Stored.{rows_in}
 
 -- how many rows there are
 pub length-rows_in : (n count : ℕ) (words : List ℕ) → length (rows_in n count words) ≡ count

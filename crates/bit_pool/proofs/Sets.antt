@@ -8,13 +8,13 @@ use Rattle.std.proofs.lemmas.Nat.Bits.{bit_at_and, bit_at-lt, bit_at-zero, bit_a
 use Rattle.bit_pool.specs.Bits.{HasBit, IsSubset}
 
 -- a bit is 0 or 1
-zero_or_one : (b : ℕ) → b < 2 → (b ≡ 0) ⊎ (b ≡ 1)
+pub zero_or_one : (b : ℕ) → b < 2 → (b ≡ 0) ⊎ (b ≡ 1)
 zero_or_one zero h = inl refl
 zero_or_one (suc zero) h = inr refl
 zero_or_one (suc (suc b)) h = absurd (omega arith)
 
 -- where two words meet in the first one, its bits are in the second
-in_second : (x y i : ℕ) → bit_and x y ≡ x → bit_at x i ≡ 1 → bit_at y i ≡ 1
+pub in_second : (x y i : ℕ) → bit_and x y ≡ x → bit_at x i ≡ 1 → bit_at y i ≡ 1
 in_second x y i e h =
     let both : min (bit_at x i) (bit_at y i) ≡ 1 = sym (bit_at_and x y i) ∙ ap (λ (z : ℕ). bit_at z i) e ∙ h in
     let below = bit_at-lt y i in
@@ -24,7 +24,7 @@ in_second x y i e h =
     one a b e l = omega arith
 
 -- and conversely
-meet_first : (x y : ℕ) → ((i : ℕ) → bit_at x i ≡ 1 → bit_at y i ≡ 1) → bit_and x y ≡ x
+pub meet_first : (x y : ℕ) → ((i : ℕ) → bit_at x i ≡ 1 → bit_at y i ≡ 1) → bit_and x y ≡ x
 meet_first x y h = same_from_bits (bit_and x y) x (λ i. bit_at_and x y i ∙ by i (zero_or_one (bit_at x i) (bit_at-lt x i)))
   where
     by : (i : ℕ) → (bit_at x i ≡ 0) ⊎ (bit_at x i ≡ 1) → min (bit_at x i) (bit_at y i) ≡ bit_at x i

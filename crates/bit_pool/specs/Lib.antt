@@ -1,3 +1,3 @@
 pub mod Bits
 pub mod Pools
-pub mod Stored
+pub mod steps

@@ -1,6 +1,6 @@
 //! The rows of one epoch.
 ghost use Rattle.std.specs.Prelude.{◌≡◌, ◌+◌, ◌*◌, ◌<◌, ◌≤◌, [], ◌∷◌, ◌++◌, length, take, drop, IfOk, OnOk, slice_index_or};
-ghost use Rattle.bit_pool.specs.Stored.{IsKept};
+ghost use Rattle.bit_pool.specs.steps.Stored.{IsKept};
 ghost use Rattle.bit_pool.specs.declared.limits.TheConstants.{MOST_ROWS};
 
 use crate::NoMemory;
@@ -27,7 +27,7 @@ pub(crate) struct Generation {
 
 impl Model for Generation {
     ghost use Rattle.std.specs.Prelude.{◌≡◌, ◌*◌, ◌≤◌, length, vec_capacity};
-    ghost use Rattle.bit_pool.specs.Stored.{Kept, rows_in};
+    ghost use Rattle.bit_pool.specs.steps.Stored.{Kept, rows_in};
 
     ghost Value = { Kept };
 

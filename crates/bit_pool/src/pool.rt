@@ -2,7 +2,7 @@
 ghost use Rattle.std.specs.Prelude.{◌≡◌, ◌↔◌, ◌+◌, ◌<◌, ◌≤◌, length, ⊤, Some, IsTrue, IfOk, OnOk, OnErr, MatchResult};
 ghost use Rattle.bit_pool.specs.Bits.{HasBit, IsRow, IsSubset, size_of};
 ghost use Rattle.bit_pool.specs.Pools.{IsPool, IsOpened, IsStale, IsFirstStale, IsPushed, IsMetInto, IsReserved, IsReset, IsSwapped, OnRow, row_of};
-ghost use Rattle.bit_pool.specs.Stored.{IsMetBy};
+ghost use Rattle.bit_pool.specs.steps.Stored.{IsMetBy};
 ghost use Rattle.bit_pool.specs.declared.limits.TheConstants.{MOST_WIDTH, MOST_ROWS, MOST_TURNS};
 
 use crate::bits::{has_bit, is_within, meet_of, size_of_row, word_count};
@@ -25,7 +25,7 @@ pub struct RowPool {
 
 impl Model for RowPool {
     ghost use Rattle.bit_pool.specs.Pools.{PoolState};
-    ghost use Rattle.bit_pool.specs.Stored.{IsStored, pool_of};
+    ghost use Rattle.bit_pool.specs.steps.Stored.{IsStored, pool_of};
 
     ghost Value = { PoolState };
 

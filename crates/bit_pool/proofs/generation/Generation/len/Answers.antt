@@ -1,5 +1,5 @@
 use Rattle.std.proofs.Common.{ap, sym}
-use Rattle.bit_pool.specs.Stored.{Kept}
+use Rattle.bit_pool.specs.steps.Stored.{Kept}
 use Rattle.bit_pool.proofs.Rows.{used_is}
 use Rattle.bit_pool.proofs.generation.Generation.len.Goals as goal
 

@@ -1,6 +1,6 @@
 use Rattle.std.proofs.Common.{◌≡◌, ◌≤◌, ℕ, ◌+◌, ◌*◌, ◌∷◌, ◌++◌, List, [], length, refl, ap, sym, ◌∙◌, arith}
 use Rattle.std.specs.Prelude.{vec_capacity}
-use Rattle.bit_pool.specs.Stored.{Kept, rows_in}
+use Rattle.bit_pool.specs.steps.Stored.{Kept, rows_in}
 use Rattle.bit_pool.proofs.Rows.{used_is, rows_more, room_for}
 use Rattle.bit_pool.proofs.generation.Generation.push.Goals as goal
 

@@ -1,5 +1,5 @@
 use Rattle.std.proofs.Common.{◌-◌, length, ap, arith}
-use Rattle.bit_pool.specs.Stored.{Kept}
+use Rattle.bit_pool.specs.steps.Stored.{Kept}
 use Rattle.bit_pool.proofs.Rows.{used_is, room_in_all}
 use Rattle.bit_pool.proofs.generation.Generation.reserve.Goals as goal
 

@@ -1,5 +1,5 @@
 use Rattle.std.proofs.Common.{◌≡◌, ◌*◌, ◌<◌, List, [], ℕ, length, take, drop, get_or, refl, ap, sym, ◌∙◌, arith}
-use Rattle.bit_pool.specs.Stored.{Kept, rows_in}
+use Rattle.bit_pool.specs.steps.Stored.{Kept, rows_in}
 use Rattle.bit_pool.proofs.Rows.{used_is, row_at, row_ends}
 use Rattle.bit_pool.proofs.generation.Generation.row.Goals as goal
 use Rattle.bit_pool.proofs.generation.Generation.row.Goals.{After-self}
