@@ -17,7 +17,7 @@ use Rattle.facet_theory.proofs.FacetPoints.{facet_by_points_lem}
 use Rattle.normal_bounds.specs.Bounds.{IsFixedBy}
 use Rattle.normal_bounds.proofs.Sizes.{all_within, point_absolute_sum_lem}
 use Rattle.normal_bounds.proofs.Normals.{normal_bound_lem}
-use Rattle.hull.specs.Bounded.{IsWithin}
+use Rattle.lattice_core.specs.ValueWidths.{IsWithin}
 use Rattle.hull.specs.Laws.{FacetsBounded}
 
 -- one more product with an entry 0

@@ -4,7 +4,7 @@ use Rattle.lattice_theory.specs.Affine.{Affine}
 use Rattle.lattice_theory.specs.Size.{size}
 use Rattle.lattice_theory.specs.Facet.{IsFacet}
 use Rattle.facet_theory.specs.Solid.{AreSolid}
-use Rattle.hull.specs.Bounded.{IsWithin}
+use Rattle.lattice_core.specs.ValueWidths.{IsWithin}
 
 -- each facet of points that aren't flat has a normal with entries of at most (2S)^(n-1) and a constant of at most (2S)^(n-1) S, for their
 -- size S

@@ -1,5 +1,4 @@
 pub mod Hyperplanes
-pub mod Bounded
 pub mod Faults
 pub mod Built
 pub mod steps

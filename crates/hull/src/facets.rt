@@ -9,7 +9,7 @@ ghost use Rattle.lattice_core.specs.declared.limits.TheConstants.{MOST_FACETS};
 ghost use Rattle.lattice_core.specs.Dimensions.{dimension_of};
 ghost use Rattle.lattice_core.specs.PointLists.{ArePoints, AreSizedPoints, AreSolidPoints};
 ghost use Rattle.lattice_core.specs.Stops.{Stops};
-ghost use Rattle.hull.specs.Bounded.{IsWithin};
+ghost use Rattle.lattice_core.specs.ValueWidths.{IsWithin};
 ghost use Rattle.hull.specs.Faults.{IsSizeRefusal, IsStartRefusal, IsFacetsRefusal};
 
 use crate::flat::flat_function;

@@ -8,3 +8,4 @@ pub mod SizeSteps
 pub mod SizeLimits
 pub mod Combinations
 pub mod CombinationExample
+pub mod ValueSizes

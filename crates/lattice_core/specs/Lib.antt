@@ -7,3 +7,5 @@ pub mod PointLists
 pub mod Weights
 pub mod Combine
 pub mod CombineSteps
+pub mod ValueWidths
+pub mod ValueWidthSteps

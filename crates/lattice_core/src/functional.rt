@@ -5,10 +5,12 @@ ghost use Rattle.lattice_theory.specs.Affine.{Affine, value};
 ghost use Rattle.lattice_theory.specs.Order.{FunctionLess};
 ghost use Rattle.lattice_theory.specs.Size.{absolute_sum};
 ghost use Rattle.lattice_core.specs.Compare.{Compares};
+ghost use Rattle.lattice_core.specs.ValueWidths.{FitsWidth, IsNarrowAt};
 ghost use Rattle.lattice_core.specs.declared.limits.TheConstants.{MOST_COORDINATES};
 
 use crate::entries::held;
-use crate::{MOST_COORDINATES, Point, pair};
+use crate::pairing::narrow_pair;
+use crate::{MOST_COORDINATES, Point, Width, pair};
 use arrayvec::ArrayVec;
 use std::alloc::AllocError;
 use std::cmp::Ordering;
@@ -118,6 +120,30 @@ impl Functional {
         pair(self.normal(), p.entries()) + self.constant
     }
 
+    /// The function's value at a point of the same dimension, worked out in a width that both fit: `width_of` tells one for functions and points of
+    /// a size.
+    #[inline]
+    pub fn value_at(&self, p: &Point, width: Width) -> i128
+        requires dimension { length self.now.normal ≡ length p.now }
+        requires fits { FitsWidth width self.now p.now }
+        ensures { result ≡ value self.now p.now }
+    {
+        match width {
+            Width::Narrow => i128::from(self.narrow_at(p)),
+            Width::Wide => self.at(p),
+        }
+    }
+
+    /// The same in 64 bits, for a function and a point that are so small.
+    #[inline]
+    pub fn narrow_at(&self, p: &Point) -> i64
+        requires dimension { length self.now.normal ≡ length p.now }
+        requires fits { IsNarrowAt self.now p.now }
+        ensures { result ≡ value self.now p.now }
+    {
+        narrow_pair(self.normal(), p.entries()) + self.constant as i64
+    }
+
     /// The same function again. It takes no memory.
     pub fn copied(&self) -> Functional
         ensures { result ≡ self.now }
@@ -163,6 +189,14 @@ mod tests {
             let p = Point::new(&x).expect(&rt, "two entries");
             assert_eq!(rt; f.at(&p), want);
         }
+    }
+
+    #[test]
+    fn answers_a_value_in_each_width(rt: HostRuntime) {
+        let f = Functional::new(&[-3, -4], 5).expect(&rt, "two entries");
+        let p = Point::new(&[-1, -1]).expect(&rt, "two entries");
+        assert_eq!(rt; f.value_at(&p, Width::Narrow), 12);
+        assert_eq!(rt; f.value_at(&p, Width::Wide), 12);
     }
 
     #[test]

@@ -15,6 +15,7 @@ mod limits;
 mod pairing;
 mod point;
 mod sizes;
+mod value_widths;
 mod weights;
 
 pub use ascending::{ascending_functions, ascending_points};
@@ -32,4 +33,5 @@ pub use limits::{
 pub use pairing::pair;
 pub use point::Point;
 pub use sizes::size_of;
+pub use value_widths::{Width, width_of};
 pub use weights::WeightSystem;

@@ -2,6 +2,7 @@
 ghost use Rattle.std.specs.Prelude.{◌≡◌, ◌⊎◌, ◌^◌, ◌≤◌, ◌*◌, ◌*ℤ◌, length, nat_abs};
 ghost use Rattle.lattice_theory.specs.Vector.{dot};
 ghost use Rattle.lattice_theory.specs.Size.{absolute_sum};
+ghost use Rattle.lattice_core.specs.ValueWidthSteps.{HasNarrowSums};
 ghost use Rattle.lattice_core.specs.declared.limits.TheConstants.{MOST_COORDINATES};
 
 /// The sum of the products of the entries of two vectors of equal length, at most 6. The absolute values of the entries of the one or of the
@@ -18,6 +19,20 @@ pub fn pair(a: &[i64], b: &[i64]) -> i128
     let mut sum = 0_i128;
     for i in 0..a.len() {
         sum += product(a[i], b[i]);
+    }
+    sum
+}
+
+/// The same in 64 bits, for vectors of any length, where no sum on the way needs more.
+#[inline]
+pub(crate) fn narrow_pair(a: &[i64], b: &[i64]) -> i64
+    requires same_length { length a.now ≡ length b.now }
+    requires small { HasNarrowSums a.now b.now }
+    ensures { result ≡ dot a.now b.now }
+{
+    let mut sum = 0;
+    for i in 0..a.len() {
+        sum += a[i] * b[i];
     }
     sum
 }

@@ -30,6 +30,6 @@ loop-i-preserved c =
     record {
       sum = simp to_z-of_z (sum_more c.args.k.now c.args.v.now c.loop-i.i _ _ _ (omega arith) (omega arith)
           (product_is c) refl c.loop-i.invariant.sum);
-      bound = simp to_z-of_z (bound_more c.args.v.now c.loop-i.i _ _ _ _ _ (omega arith) (first_small c)
+      bound = simp to_z-of_z (bound_more (2 ^ 63) c.args.v.now c.loop-i.i _ _ _ _ _ (omega arith) (first_small c)
           (product_is c) refl c.loop-i.invariant.bound);
     }

@@ -46,9 +46,9 @@ loop-i-preserved c =
     record {
       sum = simp to_z-of_z (sum_more c.args.a.now c.args.b.now c.loop-i.i _ _ _ (omega arith) (omega arith)
           (product_is c) refl c.loop-i.invariant.sum);
-      left = simp to_z-of_z (bound_more c.args.a.now c.loop-i.i _ _ _ _ _ (omega arith) (second_small c)
+      left = simp to_z-of_z (bound_more (2 ^ 63) c.args.a.now c.loop-i.i _ _ _ _ _ (omega arith) (second_small c)
           (turned_is c) refl c.loop-i.invariant.left);
-      right = simp to_z-of_z (bound_more c.args.b.now c.loop-i.i _ _ _ _ _ (omega arith) (first_small c)
+      right = simp to_z-of_z (bound_more (2 ^ 63) c.args.b.now c.loop-i.i _ _ _ _ _ (omega arith) (first_small c)
           (product_is c) refl c.loop-i.invariant.right);
     }
 
