@@ -1,6 +1,6 @@
 -- What stops the search for facets and vertices, as what stops the work on points.
 use Rattle.std.specs.Prelude.{ℤ}
-use Rattle.std.proofs.Common.{ℕ, ◌≤◌, List, arith}
+use Rattle.std.proofs.Common.{ℕ, List, arith}
 use Rattle.lattice_core.specs.Limits.{IsSized}
 use Rattle.lattice_core.specs.Stops.{Stops}
 use Rattle.lattice_core.specs.declared.faults.Fault.{Fault}

@@ -1,5 +1,6 @@
 -- What the answers of the steps mean for the whole run.
 use Rattle.std.proofs.Common.{◌≡◌, ℕ, ◌+◌, ◌≤◌, inl, inr, List, [], map, Option, Some, None, Ok, Err, refl, sym, ap, subst, ◌∙◌, arith}
+use Rattle.std.proofs.lemmas.Simd.{map-map}
 use Rattle.lattice_core.specs.declared.faults.Refusal.{Refusal}
 use Rattle.palp_io.specs.Source.{SourceState}
 use Rattle.palp_io.specs.Sink.{SinkState}
@@ -10,9 +11,10 @@ use Rattle.report_theory.proofs.Givings.{gives_nothing}
 use Rattle.palp_words.specs.Words.{words_of}
 use Rattle.palp_words.specs.declared.fault.WordFault.{WordFault}
 use Rattle.palp_words.specs.declared.job.Job.{Job}
-use Rattle.palp_input.specs.Grammar.{most_bytes, Listed, listed, TextEnd, End, FaultEnd, TooLongEnd, read_text}
-use Rattle.palp_engine.specs.Commands.{IsBuilt, AreBuilt, AreUnbuilt, ReadsText, Says}
-use Rattle.palp_engine.specs.Texts.{outcome_with, HaveReport, of_items, of_unbuilt, of_bad_words, no_front, front_of_items}
+use Rattle.palp_input.specs.Grammar.{most_bytes, listed, TextEnd, End, FaultEnd, TooLongEnd}
+use Rattle.palp_engine.specs.Entries.{Entry, TextItem, item_entry, AreTextEntries, AreEntries}
+use Rattle.palp_engine.specs.Commands.{IsBuilt, AreBuilt, AreUnbuilt, Says}
+use Rattle.palp_engine.specs.Texts.{outcome_with, HaveReport, of_entries, of_unbuilt, of_bad_words, no_front, front_of_entries}
 use Rattle.palp_engine.specs.Runs.{HasTaken, IsText, AreUntouched, IsReported, IsReportedInPart, IsDone, IsRefusal, HasReadFault, HasWriteFault, HasEnding, TellsBadWords, TellsNotBuilt, IsComplete}
 use Rattle.palp_engine.specs.RunSteps.{GivesWhole, ReportMeans, PerformedMeans, IsPerformed, OutcomeMeans, IsAnswered}
 use Rattle.palp_engine.specs.ReadingSteps.{Reads, text_end}
@@ -36,25 +38,28 @@ end_is endings.End e = refl
 end_is (endings.Fault fault) e = cc
 end_is endings.TooLong e = cc
 
--- the job that is built reads a text
-built_reads : {words : List (List ℕ)} (built : AreBuilt words) → ReadsText built.job
-built_reads built = subst ReadsText (sym built.built) tt
+-- the entries of a job that is built are the items of the text
+built_entries : (job : Job) (text : List ℕ) (entries : List Entry) (ending : TextEnd) → IsBuilt job → AreTextEntries text entries ending
+    → AreEntries job text entries ending
+built_entries job text entries ending built e = subst (λ (j : Job). AreEntries j text entries ending) (sym built) e
 
 -- the report of the items that were read is that of the words and the text
 module _ (job : Job) (source source_now : SourceState) (read : Reading) (reads : Reads (Ok read) source source_now)
     (out out_now : SinkState)
     (words : List (List ℕ)) (built : AreBuilt words) (same : built.job ≡ job) where
-  abbrev items : List Listed
-  items = map listed read.items.items
+  abbrev items : List Entry
+  items = map item_entry read.items.items
+
+  are_entries : AreEntries built.job reads.text items (text_end read.ending)
+  are_entries = built_entries built.job reads.text items (text_end read.ending) built.built (record {
+    entries_are = sym (ap (map TextItem) reads.means.items_are ∙ map-map TextItem listed read.items.items);
+    ending_is = sym reads.means.ending_is;
+  })
 
   have_report : (report : List (List ℕ)) (stop : Option (Stop Refusal)) (outcome : Outcome) → IsListReport (Says job) 1 0 items report stop
       → outcome ≡ outcome_with stop (text_end read.ending) → HaveReport words reads.text report outcome
-  have_report report stop outcome r o =
-      let moved : IsListReport (Says built.job) 1 0 (read_text reads.text).items report stop =
-      subst (λ (j : Job). IsListReport (Says j) 1 0 (read_text reads.text).items report stop) (sym same)
-      (subst (λ (xs : List Listed). IsListReport (Says job) 1 0 xs report stop) (sym reads.means.items_are) r) in
-      subst (λ (x : Outcome). HaveReport words reads.text report x)
-      (ap (λ (e : TextEnd). outcome_with stop e) reads.means.ending_is ∙ sym o) (of_items built (built_reads built) moved)
+  have_report report stop outcome r o = subst (λ (x : Outcome). HaveReport words reads.text report x) (sym o)
+      (of_entries built (text_end read.ending) are_entries (subst (λ (j : Job). IsListReport (Says j) 1 0 items report stop) (sym same) r))
 
   reported : (outcome : Outcome) → GivesWhole job items (text_end read.ending) out out_now outcome
       → IsReported words source source_now out out_now outcome
@@ -74,9 +79,7 @@ module _ (job : Job) (source source_now : SourceState) (read : Reading) (reads :
     text = reads.text;
     is_text = reads.is_text;
     front = g.front;
-    is_front = front_of_items built (built_reads built)
-        (subst (λ (j : Job). IsListFront (Says j) 0 (read_text reads.text).items g.front) (sym same)
-        (subst (λ (xs : List Listed). IsListFront (Says job) 0 xs g.front) (sym reads.means.items_are) g.is_front));
+    is_front = front_of_entries built (text_end read.ending) are_entries (subst (λ (j : Job). IsListFront (Says j) 0 items g.front) (sym same) g.is_front);
     gives = g.gives;
   }
 
@@ -98,7 +101,7 @@ module _ (job : Job) (source source_now : SourceState) (read : Reading) (reads :
   report_means NotBuilt m = absurd m
 
 pub report_performs : (job : Job) (source source_now : SourceState) (out out_now : SinkState) (read : Reading) (outcome : Outcome)
-    → Reads (Ok read) source source_now → ReportMeans job (map listed read.items.items) (text_end read.ending) out out_now outcome
+    → Reads (Ok read) source source_now → ReportMeans job (map item_entry read.items.items) (text_end read.ending) out out_now outcome
     → IsPerformed job source source_now out out_now outcome
 report_performs job source source_now out out_now read outcome r m = record {
   taken = (r.is_text.bytes, r.is_text.have_passed);

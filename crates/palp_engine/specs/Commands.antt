@@ -8,6 +8,7 @@ use Rattle.palp_words.specs.declared.job.Job.TheVariants.{Poly, Nef, Cws, Sweep}
 use Rattle.palp_words.specs.declared.job.PolyFlags.{PolyFlags}
 use Rattle.palp_input.specs.Grammar.{Listed}
 use Rattle.palp_engine.specs.Items.{IsItemRefused, IsPiece}
+use Rattle.palp_engine.specs.Entries.{Entry, TextItem, ListSystem, ListEnd}
 
 -- `poly` with the general line in its form without a dual, and nothing else
 abbrev pub plain_flags : PolyFlags
@@ -53,9 +54,15 @@ pub data PlainSays (item : Listed) : ℕ → Step Refusal → Type 0 where
   whole : PlainSays item 1 (Close Whole)
   refused : {cause : Refusal} → IsItemRefused item cause → PlainSays item 0 (Close (Ends cause))
 
--- What a job says of an item: what comes next after so many of its pieces. A job that isn't built says nothing.
-abbrev pub Says : Job → Listed → ℕ → Step Refusal → Type 0
-Says (Poly flags) item k step = (flags ≡ plain_flags) × PlainSays item k step
-Says (Nef words) item k step = ⊥
-Says (Cws words) item k step = ⊥
-Says (Sweep words) item k step = ⊥
+-- What `poly` says of an entry, which is an item of a text.
+abbrev pub PolySays : PolyFlags → Entry → ℕ → Step Refusal → Type 0
+PolySays flags (TextItem item) k step = (flags ≡ plain_flags) × PlainSays item k step
+PolySays flags (ListSystem system) k step = ⊥
+PolySays flags (ListEnd systems) k step = ⊥
+
+-- What a job says of an entry: what comes next after so many of its pieces. A job that isn't built says nothing.
+abbrev pub Says : Job → Entry → ℕ → Step Refusal → Type 0
+Says (Poly flags) entry k step = PolySays flags entry k step
+Says (Nef words) entry k step = ⊥
+Says (Cws words) entry k step = ⊥
+Says (Sweep words) entry k step = ⊥

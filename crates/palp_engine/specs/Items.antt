@@ -1,9 +1,8 @@
 -- The piece of an item in the report of `poly -n`, or why the item is refused. This project's own.
-use Rattle.std.specs.Prelude.{◌≡◌, ◌⊎◌, ℕ, List, [], ◌∷◌, ◌++◌, ℤ, codes}
+use Rattle.std.specs.Prelude.{◌≡◌, ◌⊎◌, ℕ, List, [], ◌++◌, ℤ, codes}
 use Rattle.std.specs.Fmt.{decimal}
 use Rattle.std.specs.List.{flat_map}
 use Rattle.lattice_core.specs.Dimensions.{dimension_of}
-use Rattle.lattice_core.specs.Weights.{Weighted}
 use Rattle.lattice_core.specs.declared.faults.Refusal.{Refusal}
 use Rattle.palp_input.specs.Systems.{numbers_in}
 use Rattle.palp_input.specs.Grammar.{Listed, ListedWeights, ListedPoints}

@@ -5,9 +5,10 @@ use Rattle.lattice_core.specs.declared.faults.Refusal.{Refusal}
 use Rattle.palp_io.specs.Sink.{IsPrefix}
 use Rattle.report_theory.specs.Report.{Closing, ArePieces}
 use Rattle.palp_words.specs.declared.job.Job.{Job}
-use Rattle.palp_input.specs.Grammar.{Listed}
+use Rattle.palp_input.specs.Grammar.{Listed, TextEnd}
 use Rattle.palp_engine.specs.Reports.{IsBodyLine, IsRefused}
 use Rattle.palp_engine.specs.Items.{IsItemRefused, IsPiece}
+use Rattle.palp_engine.specs.Entries.{Entry, AreEntries}
 use Rattle.palp_engine.specs.Commands.{Says}
 use Rattle.palp_engine.specs.Texts.{HaveReport, IsReport, IsFront}
 use Rattle.palp_engine.specs.declared.outcome.Outcome.{Outcome}
@@ -38,10 +39,15 @@ OneItemRefusal = (item : Listed) (cause other : Refusal) → IsItemRefused item 
 abbrev pub PieceOrRefusal : Type 0
 PieceOrRefusal = (item : Listed) (piece : List ℕ) (cause : Refusal) → IsPiece item piece → IsItemRefused item cause → ⊥
 
--- of an item a job says one list of pieces, which ends in one way: so it is whole, or refused for one cause
+-- a job reports on one list of entries of a text, which ends in one way
+abbrev pub OneListOfEntries : Type 0
+OneListOfEntries = (job : Job) (text : List ℕ) (entries others : List Entry) (ending another : TextEnd)
+    → AreEntries job text entries ending → AreEntries job text others another → (entries ≡ others) × (ending ≡ another)
+
+-- of an entry a job says one list of pieces, which ends in one way: so it is whole, or refused for one cause
 abbrev pub OneList : Type 0
-OneList = (job : Job) (item : Listed) (pieces other : List (List ℕ)) (closing another : Closing Refusal)
-    → ArePieces (Says job) 0 item pieces closing → ArePieces (Says job) 0 item other another → (pieces ≡ other) × (closing ≡ another)
+OneList = (job : Job) (entry : Entry) (pieces other : List (List ℕ)) (closing another : Closing Refusal)
+    → ArePieces (Says job) 0 entry pieces closing → ArePieces (Says job) 0 entry other another → (pieces ≡ other) × (closing ≡ another)
 
 -- words and a text have one report, which ends with one outcome
 abbrev pub OneReport : Type 0

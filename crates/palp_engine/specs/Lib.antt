@@ -1,5 +1,6 @@
 pub mod Reports
 pub mod Items
+pub mod Entries
 pub mod Commands
 pub mod Texts
 pub mod Statuses

@@ -10,7 +10,8 @@ use Rattle.report_theory.specs.Report.{Stop}
 use Rattle.report_theory.specs.Giving.{GivesReport, GivesFront}
 use Rattle.palp_words.specs.Words.{words_of}
 use Rattle.palp_words.specs.declared.job.Job.{Job}
-use Rattle.palp_input.specs.Grammar.{Listed, TextEnd}
+use Rattle.palp_input.specs.Grammar.{TextEnd}
+use Rattle.palp_engine.specs.Entries.{Entry}
 use Rattle.palp_engine.specs.Commands.{AreBuilt, AreUnbuilt, Says}
 use Rattle.palp_engine.specs.Texts.{outcome_with}
 use Rattle.palp_engine.specs.Runs.{HasTaken, AreUntouched, IsReported, IsReportedInPart, IsDone, HasReadFault, HasWriteFault}
@@ -24,23 +25,23 @@ abbrev pub IsItemStop : Fault → ItemFault → Type 0
 IsItemStop (stops.Refused cause) fault = fault ≡ faults.Refused cause
 IsItemStop stops.NoMemory fault = fault ≡ faults.NoMemory
 
--- the report of items was appended, whole, and the outcome is the one that it ends with
-pub record GivesWhole (job : Job) (items : List Listed) (ending : TextEnd) (out out_now : SinkState) (outcome : Outcome) : Type 0 where
+-- the report of entries was appended, whole, and the outcome is the one that it ends with
+pub record GivesWhole (job : Job) (entries : List Entry) (ending : TextEnd) (out out_now : SinkState) (outcome : Outcome) : Type 0 where
   pub stop : Option (Stop Refusal)
-  pub gives : GivesReport (Says job) items stop out out_now
+  pub gives : GivesReport (Says job) entries stop out out_now
   pub outcome_is : outcome ≡ outcome_with stop ending
 
--- what an outcome of the report of items means
-abbrev pub ReportMeans : Job → List Listed → TextEnd → SinkState → SinkState → Outcome → Type 0
-ReportMeans job items ending out out_now Done = GivesWhole job items ending out out_now Done
-ReportMeans job items ending out out_now (BadText fault) = GivesWhole job items ending out out_now (BadText fault)
-ReportMeans job items ending out out_now (Refused item cause) = GivesWhole job items ending out out_now (Refused item cause)
-ReportMeans job items ending out out_now TextLimit = GivesWhole job items ending out out_now TextLimit
-ReportMeans job items ending out out_now WriteFault = Rose out.faults out_now.faults × GivesFront (Says job) items out out_now
-ReportMeans job items ending out out_now NoMemory = GivesFront (Says job) items out out_now
-ReportMeans job items ending out out_now other = ⊥
+-- what an outcome of the report of entries means
+abbrev pub ReportMeans : Job → List Entry → TextEnd → SinkState → SinkState → Outcome → Type 0
+ReportMeans job entries ending out out_now Done = GivesWhole job entries ending out out_now Done
+ReportMeans job entries ending out out_now (BadText fault) = GivesWhole job entries ending out out_now (BadText fault)
+ReportMeans job entries ending out out_now (Refused item cause) = GivesWhole job entries ending out out_now (Refused item cause)
+ReportMeans job entries ending out out_now TextLimit = GivesWhole job entries ending out out_now TextLimit
+ReportMeans job entries ending out out_now WriteFault = Rose out.faults out_now.faults × GivesFront (Says job) entries out out_now
+ReportMeans job entries ending out out_now NoMemory = GivesFront (Says job) entries out out_now
+ReportMeans job entries ending out out_now other = ⊥
 
--- the outcome of an item with this number whose report isn't given whole
+-- the outcome of an entry with this number whose report isn't given whole
 abbrev pub IsStopped : ℕ → ItemFault → Outcome → Type 0
 IsStopped number (faults.Refused cause) outcome = outcome ≡ Refused number cause
 IsStopped number faults.Write outcome = outcome ≡ WriteFault

@@ -4,12 +4,13 @@ use Rattle.lattice_core.specs.declared.faults.Refusal.{Refusal}
 use Rattle.report_theory.specs.Report.{Stop, IsListReport, IsListFront}
 use Rattle.palp_words.specs.Words.{words_of}
 use Rattle.palp_words.specs.declared.fault.WordFault.{WordFault}
-use Rattle.palp_input.specs.Grammar.{TextEnd, End, FaultEnd, TooLongEnd, read_text}
-use Rattle.palp_engine.specs.Commands.{AreBuilt, AreUnbuilt, ReadsText, Says}
+use Rattle.palp_input.specs.Grammar.{TextEnd, End, FaultEnd, TooLongEnd}
+use Rattle.palp_engine.specs.Entries.{Entry, AreEntries}
+use Rattle.palp_engine.specs.Commands.{AreBuilt, AreUnbuilt, Says}
 use Rattle.palp_engine.specs.declared.outcome.Outcome.{Outcome}
 use Rattle.palp_engine.specs.declared.outcome.Outcome.TheVariants.{Done, BadWords, BadText, Refused, TextLimit, NotBuilt}
 
--- the outcome where no item is refused
+-- the outcome where no entry is refused
 abbrev pub outcome_of : TextEnd → Outcome
 outcome_of End = Done
 outcome_of (FaultEnd fault) = BadText fault
@@ -20,12 +21,12 @@ abbrev pub outcome_with : Option (Stop Refusal) → TextEnd → Outcome
 outcome_with (Some stop) ending = Refused stop.number stop.cause
 outcome_with None ending = outcome_of ending
 
--- Words and a text have this report, in pieces, which ends with this outcome. Of a job that reads a text the report is that of the text's
--- items, as the job says it. Where the words have a fault, or give a job that isn't built, it is empty.
+-- Words and a text have this report, in pieces, which ends with this outcome. It is the report of the entries of the job that the words give,
+-- as the job says it. Where the words have a fault, or give a job that isn't built, it is empty.
 pub data HaveReport (words : List (List ℕ)) (text : List ℕ) : List (List ℕ) → Outcome → Type 0 where
-  of_items : {report : List (List ℕ)} {stop : Option (Stop Refusal)} (built : AreBuilt words) → ReadsText built.job
-      → IsListReport (Says built.job) 1 0 (read_text text).items report stop
-      → HaveReport words text report (outcome_with stop (read_text text).ending)
+  of_entries : {entries : List Entry} {report : List (List ℕ)} {stop : Option (Stop Refusal)} (built : AreBuilt words) (ending : TextEnd)
+      → AreEntries built.job text entries ending → IsListReport (Says built.job) 1 0 entries report stop
+      → HaveReport words text report (outcome_with stop ending)
   of_unbuilt : AreUnbuilt words → HaveReport words text [] NotBuilt
   of_bad_words : {fault : WordFault} → words_of words ≡ Err fault → HaveReport words text [] (BadWords fault)
 
@@ -40,5 +41,5 @@ EndsWith words text outcome = (report : List (List ℕ)) × HaveReport words tex
 -- a front of the report of words and a text: some pieces, and of the last one perhaps a front
 pub data IsFront (words : List (List ℕ)) (text : List ℕ) : List (List ℕ) → Type 0 where
   no_front : IsFront words text []
-  front_of_items : {front : List (List ℕ)} (built : AreBuilt words) → ReadsText built.job
-      → IsListFront (Says built.job) 0 (read_text text).items front → IsFront words text front
+  front_of_entries : {entries : List Entry} {front : List (List ℕ)} (built : AreBuilt words) (ending : TextEnd)
+      → AreEntries built.job text entries ending → IsListFront (Says built.job) 0 entries front → IsFront words text front

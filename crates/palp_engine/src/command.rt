@@ -5,6 +5,7 @@ ghost use Rattle.std.specs.List.{All};
 ghost use Rattle.std.specs.String.{string_bytes};
 ghost use Rattle.palp_input.specs.Grammar.{listed};
 ghost use Rattle.palp_input.specs.Items.{IsItem};
+ghost use Rattle.palp_engine.specs.Entries.{item_entry};
 ghost use Rattle.palp_engine.specs.Commands.{IsBuilt};
 ghost use Rattle.palp_engine.specs.Notes.{note_line, IsNoted};
 ghost use Rattle.palp_engine.specs.Texts.{outcome_of};
@@ -72,7 +73,7 @@ fn stopped(number: u64, fault: ItemFault) -> Outcome
 fn report<O: Sink>(alloc: Global, job: &Job, items: &[Item], ending: Ending, out: &mut O) -> Outcome
     requires job { IsBuilt job.now }
     requires items { All (λ item. IsItem (listed item)) items.now }
-    ensures { ReportMeans job.now (map listed items.now) (text_end ending) (O.state out.old) (O.state out.new) result }
+    ensures { ReportMeans job.now (map item_entry items.now) (text_end ending) (O.state out.old) (O.state out.new) result }
 {
     let Ok(mut session) = Session::open(alloc) else {
         return Outcome::NoMemory;

@@ -8,7 +8,8 @@ ghost use Rattle.palp_input.specs.Items.{IsItem};
 ghost use Rattle.palp_input.specs.Systems.{numbers_in};
 ghost use Rattle.palp_engine.specs.Commands.{IsBuilt};
 ghost use Rattle.palp_engine.specs.Items.{IsPiece, IsItemRefused, echo, numbers_text};
-ghost use Rattle.palp_engine.specs.Sessions.{ItemMeans};
+ghost use Rattle.palp_engine.specs.Entries.{item_entry};
+ghost use Rattle.palp_engine.specs.Sessions.{EntryMeans};
 
 use crate::polytopes::body_of;
 use item_points::points_of_item;
@@ -129,7 +130,7 @@ pub fn report_item<O: Sink>(
 ) -> Result<(), ItemFault>
     requires job { IsBuilt job.now }
     requires item { IsItem (listed item.now) }
-    ensures { ItemMeans result job.now (listed item.now) (O.state out.old) (O.state out.new) }
+    ensures { EntryMeans result job.now (item_entry item.now) (O.state out.old) (O.state out.new) }
 {
     write_piece(session.alloc, &mut session.page, item)?;
     match out.give(&session.page) {

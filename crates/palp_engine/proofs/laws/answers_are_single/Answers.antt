@@ -1,6 +1,6 @@
 use Rattle.palp_engine.proofs.SingleAnswers.{one_line, one_refusal, line_or_refusal}
 use Rattle.palp_engine.proofs.SingleItems.{one_piece, one_item_refusal, piece_or_refusal}
-use Rattle.palp_engine.proofs.SingleReports.{one_list, one_report, fronts_are_fronts, empty_front}
+use Rattle.palp_engine.proofs.SingleReports.{one_list_of_entries, one_list, one_report, fronts_are_fronts, empty_front}
 use Rattle.palp_engine.proofs.laws.answers_are_single.Goals as goal
 
 pub returns-clause-line : goal.returns-clause-line
@@ -20,6 +20,9 @@ returns-clause-item_refusal c = one_item_refusal
 
 pub returns-clause-item_apart : goal.returns-clause-item_apart
 returns-clause-item_apart c = piece_or_refusal
+
+pub returns-clause-entries : goal.returns-clause-entries
+returns-clause-entries c = one_list_of_entries
 
 pub returns-clause-pieces : goal.returns-clause-pieces
 returns-clause-pieces c = one_list
