@@ -1,10 +1,11 @@
 -- A worked example: the vectors that pair to 0 with (1, 2, 3) and (4, 5, 6) are the multiples of (1, -2, 1).
 use Rattle.std.proofs.Common.{◌≡◌, ℕ, zero, suc, ◌≤◌, List, [], ◌∷◌, ℤ, pos, negsuc, ◌-ℤ◌, ◌*ℤ◌, refl, arith}
 use Rattle.lattice_theory.specs.Vector.{entry, dot}
-use Rattle.elimination.specs.Elimination.{Member, pairings, IsCombination, IsKernel, ArePivots, IsReduced}
+use Rattle.lattice_theory.specs.Examples.{in_plane}
+use Rattle.elimination.specs.Elimination.{Member, pairings, IsCombination, IsKernel, ArePivots, IsReduced, AreSeparated}
 use Rattle.lattice_theory.proofs.Integers.{linear}
 use Rattle.std.proofs.lemmas.Int.{ints}
-use Rattle.std.proofs.lemmas.List.Elements.{All-nil, All-cons}
+use Rattle.std.proofs.lemmas.List.Elements.{All-nil, All-cons, All-head}
 use Rattle.elimination.proofs.KernelForm.{kernel_out}
 use Rattle.elimination.proofs.KernelStart.{units_kernel, units_pivots}
 use Rattle.elimination.proofs.KernelLaws.{kernel_steps_lem}
@@ -119,3 +120,28 @@ twice (a ∷ (b ∷ (c ∷ x))) = omega (arith, ints)
 -- so it is a combination
 pub combination : IsCombination (last ∷ []) (negsuc 1 ∷ (pos 4 ∷ (negsuc 1 ∷ [])))
 combination = record { multiplier = 1; positive = omega arith; coefficients = negsuc 1 ∷ []; as_many = refl; sums = twice }
+
+-- (0, 1) tells (1, 2) from (1, 0)
+pub told_apart : AreSeparated 2 (in_plane (pos 1) (pos 2) ∷ in_plane (pos 1) (pos 0) ∷ [])
+told_apart = (
+  record {
+    separator = in_plane (pos 0) (pos 1);
+    dimension = refl;
+    annihilates = All-cons (λ v. dot (in_plane (pos 0) (pos 1)) v ≡ pos 0) (in_plane (pos 1) (pos 0)) [] refl
+        (All-nil (λ v. dot (in_plane (pos 0) (pos 1)) v ≡ pos 0));
+    nonzero = λ (e : pos 2 ≡ pos 0). absurd (omega (arith, linear));
+  },
+  (
+    record {
+      separator = in_plane (pos 1) (pos 0);
+      dimension = refl;
+      annihilates = All-nil (λ v. dot (in_plane (pos 1) (pos 0)) v ≡ pos 0);
+      nonzero = λ (e : pos 1 ≡ pos 0). absurd (omega (arith, linear));
+    },
+    tt,
+  ),
+)
+
+-- no vector is told from itself
+pub same_together : AreSeparated 2 (in_plane (pos 1) (pos 2) ∷ in_plane (pos 1) (pos 2) ∷ []) → ⊥
+same_together (s, rest) = s.nonzero (All-head (λ v. dot s.separator v ≡ pos 0) (in_plane (pos 1) (pos 2)) [] s.annihilates)

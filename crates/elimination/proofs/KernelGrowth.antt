@@ -11,14 +11,14 @@ use Rattle.elimination.proofs.KernelPivot.{Pivot, pivot_or_not, kernel_front}
 use Rattle.elimination.proofs.KernelStart.{units, units_kernel, units_pivots}
 
 -- a sign that makes a number that isn't 0 positive
-record HasSign (d : ℤ) : Type 0 where
-  sign : ℤ
-  square : sign *ℤ sign ≡ pos 1
-  nonzero : sign ≢ pos 0
-  positive : pos 0 <ℤ (sign *ℤ d)
+pub record HasSign (d : ℤ) : Type 0 where
+  pub sign : ℤ
+  pub square : sign *ℤ sign ≡ pos 1
+  pub nonzero : sign ≢ pos 0
+  pub positive : pos 0 <ℤ (sign *ℤ d)
 
 -- 1 or -1
-sign_of : (d : ℤ) → d ≢ pos 0 → HasSign d
+pub sign_of : (d : ℤ) → d ≢ pos 0 → HasSign d
 sign_of d n = ⊎_elim
     (λ (h : pos 0 <ℤ d). record {
       sign = pos 1;
@@ -71,7 +71,7 @@ made_reduces {m = m} {p = p} {k = k} {v = v} s hp hk a h = record {
     at_own d a b c hd ha e = let z = ap (λ (w : ℤ). b *ℤ w) e ∙ *ℤ-zero b in let h = product_positive d a hd ha in omega (arith, linear)
 
 -- one for each member
-reduced_exists : {m : ℕ} {vectors : List (List ℤ)} {p : Member} {v : List ℤ} {ks : List Member} → HasSign (dot p.vector v)
+pub reduced_exists : {m : ℕ} {vectors : List (List ℤ)} {p : Member} {v : List ℤ} {ks : List Member} → HasSign (dot p.vector v)
     → IsMember m vectors p → Each (IsMember m vectors) ks → Each (IsApart p) ks
     → Each (λ k. (dot k.vector v ≡ pos 0) ⊎ (p.own ≤ k.own)) ks → (ls : List Member) × Reduced m p v ks ls
 reduced_exists s hp empty a h = ([], none_left)

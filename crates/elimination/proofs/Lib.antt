@@ -5,5 +5,6 @@ pub mod KernelStart
 pub mod KernelGrowth
 pub mod KernelLaws
 pub mod KernelSize
+pub mod Separated
 pub mod KernelPlaces
 pub mod ExampleSteps

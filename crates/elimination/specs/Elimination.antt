@@ -47,6 +47,18 @@ pub record ArePivots (m : ℕ) (vectors pivots : List (List ℤ)) (ks : List Mem
   pub count : length pivots + length ks ≡ m
   pub kernel : IsKernel m pivots ks
 
+-- v is told from the vectors: some vector of length m pairs to 0 with each of them and not with v
+pub record IsSeparated (m : ℕ) (vectors : List (List ℤ)) (v : List ℤ) : Type 0 where
+  pub separator : List ℤ
+  pub dimension : length separator ≡ m
+  pub annihilates : Annihilates vectors separator
+  pub nonzero : dot separator v ≢ pos 0
+
+-- each vector of the list is told from those behind it
+abbrev pub AreSeparated : ℕ → List (List ℤ) → Type 0
+AreSeparated m [] = Unit {0}
+AreSeparated m (v ∷ vectors) = IsSeparated m vectors v × AreSeparated m vectors
+
 -- the member e_i of the kernel of no vectors: the i-th unit vector, with its own place i
 pub record IsUnitMember (m i : ℕ) (k : Member) : Type 0 where
   pub own : k.own ≡ i

@@ -2,7 +2,7 @@
 use Rattle.std.specs.Prelude.{◌≡◌, ◌≢◌, ℕ, ◌+◌, ◌<◌, ◌≤◌, List, [], ◌∷◌, ◌++◌, length, ℤ, pos, slice_index_or}
 use Rattle.std.specs.List.{All, AllZip, Contains}
 use Rattle.lattice_theory.specs.Vector.{entry, EndsAt, dot, HaveDimension, IsVectorMultiple}
-use Rattle.elimination.specs.Elimination.{Member, Annihilates, IsKernel, ArePivots, IsUnitMember, IsReduced}
+use Rattle.elimination.specs.Elimination.{Member, Annihilates, IsKernel, ArePivots, AreSeparated, IsUnitMember, IsReduced}
 
 -- every list of vectors of length m has a kernel, with pivots
 abbrev pub KernelExists : Type 0
@@ -68,3 +68,7 @@ FewDetermine = (m : ℕ) (vectors : List (List ℤ)) → HaveDimension m vectors
     → ((g : List ℤ) → length g ≡ m → Annihilates vectors g → IsVectorMultiple g f)
     → (pivots : List (List ℤ)) × (length pivots + 1 ≡ m) × ((v : List ℤ) → Contains pivots v → Contains vectors v)
     × ((g : List ℤ) → length g ≡ m → Annihilates pivots g → Annihilates vectors g)
+
+-- vectors of which each is told from those behind it by a vector of length m are at most m
+abbrev pub SeparatedAreFew : Type 0
+SeparatedAreFew = (m : ℕ) (vectors : List (List ℤ)) → AreSeparated m vectors → length vectors ≤ m

@@ -3,6 +3,10 @@ ghost use Rattle.std.specs.Prelude.{◌≡◌, ◌≤◌, pos};
 ghost use Rattle.lattice_core.specs.Limits.{size_limit_of};
 ghost use Rattle.lattice_core.specs.declared.limits.TheConstants.{MOST_COORDINATES};
 
+use normal_bounds::limits::{
+    MOST_SIZE_1, MOST_SIZE_2, MOST_SIZE_3, MOST_SIZE_4, MOST_SIZE_5, MOST_SIZE_6,
+};
+
 /// The most weight systems of a weight line.
 pub const MOST_SYSTEMS: usize = 6;
 
@@ -46,13 +50,14 @@ pub fn size_limit(n: usize) -> i64
     requires most { n ≤ MOST_COORDINATES }
     ensures { result ≡ pos (size_limit_of n) }
 {
-    match n {
-        1 | 2 => 1_073_741_824,
-        3 => 16_777_216,
-        4 => 100_000,
-        5 => 8_000,
-        _ => 1_024,
-    }
+    i64::from(match n {
+        1 => MOST_SIZE_1,
+        2 => MOST_SIZE_2,
+        3 => MOST_SIZE_3,
+        4 => MOST_SIZE_4,
+        5 => MOST_SIZE_5,
+        _ => MOST_SIZE_6,
+    })
 }
 
 #[cfg(test)]

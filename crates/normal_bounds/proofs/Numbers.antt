@@ -2,6 +2,7 @@
 use Rattle.std.proofs.Common.{ℕ, zero, suc, ◌+◌, ◌*◌, ◌^◌, ◌<◌, ◌≤◌, arith}
 use Rattle.std.proofs.lemmas.Nat.{mul-le}
 use Rattle.std.proofs.Math.Nat.{mul-le-mul_left, pow-le-pow_left, pow-le-pow_right, pow-zero, pow-succ'}
+use Rattle.normal_bounds.specs.declared.limits.TheConstants.{MOST_SIZE_1, MOST_SIZE_2, MOST_SIZE_3, MOST_SIZE_4, MOST_SIZE_5, MOST_SIZE_6}
 use Rattle.normal_bounds.specs.InNumbers.{ValuesFit}
 use Rattle.normal_bounds.specs.Laws.{EntriesFit, StepFits, CombineFits}
 
@@ -36,48 +37,48 @@ products_of_zero S j k h = let a = mul-le ((2 * S) ^ j) ((2 * S) ^ k) 1 1 (power
 -- the law on entries
 pub entries_fit_lem : EntriesFit
 entries_fit_lem zero j S e h = absurd (omega arith)
-entries_fit_lem (suc zero) j S e h = power_at (2 ^ 63) 1_073_741_824 0 S j h (omega arith) (omega arith) (omega arith)
-entries_fit_lem (suc (suc zero)) j S e h = power_at (2 ^ 63) 1_073_741_824 1 S j h (omega arith) (omega arith) (omega arith)
-entries_fit_lem (suc (suc (suc zero))) j S e h = power_at (2 ^ 63) 16_777_216 2 S j h (omega arith) (omega arith) (omega arith)
-entries_fit_lem (suc (suc (suc (suc zero)))) j S e h = power_at (2 ^ 63) 100_000 3 S j h (omega arith) (omega arith) (omega arith)
-entries_fit_lem (suc (suc (suc (suc (suc zero))))) j S e h = power_at (2 ^ 63) 8_000 4 S j h (omega arith) (omega arith) (omega arith)
-entries_fit_lem (suc (suc (suc (suc (suc (suc zero)))))) j S e h = power_at (2 ^ 63) 1_024 5 S j h (omega arith) (omega arith) (omega arith)
+entries_fit_lem (suc zero) j S e h = power_at (2 ^ 63) MOST_SIZE_1 0 S j h (omega arith) (omega arith) (omega arith)
+entries_fit_lem (suc (suc zero)) j S e h = power_at (2 ^ 63) MOST_SIZE_2 1 S j h (omega arith) (omega arith) (omega arith)
+entries_fit_lem (suc (suc (suc zero))) j S e h = power_at (2 ^ 63) MOST_SIZE_3 2 S j h (omega arith) (omega arith) (omega arith)
+entries_fit_lem (suc (suc (suc (suc zero)))) j S e h = power_at (2 ^ 63) MOST_SIZE_4 3 S j h (omega arith) (omega arith) (omega arith)
+entries_fit_lem (suc (suc (suc (suc (suc zero))))) j S e h = power_at (2 ^ 63) MOST_SIZE_5 4 S j h (omega arith) (omega arith) (omega arith)
+entries_fit_lem (suc (suc (suc (suc (suc (suc zero)))))) j S e h = power_at (2 ^ 63) MOST_SIZE_6 5 S j h (omega arith) (omega arith) (omega arith)
 entries_fit_lem (suc (suc (suc (suc (suc (suc (suc n))))))) j S e h = let a = power_of_zero S j h in omega arith
 
 -- the law on values
 pub values_fit_lem : ValuesFit
 values_fit_lem zero j S e h = let a = power_of_zero S j h in omega arith
-values_fit_lem (suc zero) j S e h = power_at (2 ^ 76) 1_073_741_824 1 S j h (omega arith) e (omega arith)
-values_fit_lem (suc (suc zero)) j S e h = power_at (2 ^ 76) 1_073_741_824 2 S j h (omega arith) e (omega arith)
-values_fit_lem (suc (suc (suc zero))) j S e h = power_at (2 ^ 76) 16_777_216 3 S j h (omega arith) e (omega arith)
-values_fit_lem (suc (suc (suc (suc zero)))) j S e h = power_at (2 ^ 76) 100_000 4 S j h (omega arith) e (omega arith)
-values_fit_lem (suc (suc (suc (suc (suc zero))))) j S e h = power_at (2 ^ 76) 8_000 5 S j h (omega arith) e (omega arith)
-values_fit_lem (suc (suc (suc (suc (suc (suc zero)))))) j S e h = power_at (2 ^ 76) 1_024 6 S j h (omega arith) e (omega arith)
+values_fit_lem (suc zero) j S e h = power_at (2 ^ 76) MOST_SIZE_1 1 S j h (omega arith) e (omega arith)
+values_fit_lem (suc (suc zero)) j S e h = power_at (2 ^ 76) MOST_SIZE_2 2 S j h (omega arith) e (omega arith)
+values_fit_lem (suc (suc (suc zero))) j S e h = power_at (2 ^ 76) MOST_SIZE_3 3 S j h (omega arith) e (omega arith)
+values_fit_lem (suc (suc (suc (suc zero)))) j S e h = power_at (2 ^ 76) MOST_SIZE_4 4 S j h (omega arith) e (omega arith)
+values_fit_lem (suc (suc (suc (suc (suc zero))))) j S e h = power_at (2 ^ 76) MOST_SIZE_5 5 S j h (omega arith) e (omega arith)
+values_fit_lem (suc (suc (suc (suc (suc (suc zero)))))) j S e h = power_at (2 ^ 76) MOST_SIZE_6 6 S j h (omega arith) e (omega arith)
 values_fit_lem (suc (suc (suc (suc (suc (suc (suc n))))))) j S e h = let a = power_of_zero S j h in omega arith
 
 -- the law on steps
 pub step_fits_lem : StepFits
 step_fits_lem zero j S e h = absurd (omega arith)
 step_fits_lem (suc zero) j S e h = absurd (omega arith)
-step_fits_lem (suc (suc zero)) j S e h = products_at 1_073_741_824 0 1 S j (j + 1) h (omega arith) (omega arith) (omega arith) (omega arith)
-step_fits_lem (suc (suc (suc zero))) j S e h = products_at 16_777_216 1 2 S j (j + 1) h (omega arith) (omega arith) (omega arith)
+step_fits_lem (suc (suc zero)) j S e h = products_at MOST_SIZE_2 0 1 S j (j + 1) h (omega arith) (omega arith) (omega arith) (omega arith)
+step_fits_lem (suc (suc (suc zero))) j S e h = products_at MOST_SIZE_3 1 2 S j (j + 1) h (omega arith) (omega arith) (omega arith)
     (omega arith)
-step_fits_lem (suc (suc (suc (suc zero)))) j S e h = products_at 100_000 2 3 S j (j + 1) h (omega arith) (omega arith) (omega arith)
+step_fits_lem (suc (suc (suc (suc zero)))) j S e h = products_at MOST_SIZE_4 2 3 S j (j + 1) h (omega arith) (omega arith) (omega arith)
     (omega arith)
-step_fits_lem (suc (suc (suc (suc (suc zero))))) j S e h = products_at 8_000 3 4 S j (j + 1) h (omega arith) (omega arith) (omega arith)
+step_fits_lem (suc (suc (suc (suc (suc zero))))) j S e h = products_at MOST_SIZE_5 3 4 S j (j + 1) h (omega arith) (omega arith) (omega arith)
     (omega arith)
-step_fits_lem (suc (suc (suc (suc (suc (suc zero)))))) j S e h = products_at 1_024 4 5 S j (j + 1) h (omega arith) (omega arith)
+step_fits_lem (suc (suc (suc (suc (suc (suc zero)))))) j S e h = products_at MOST_SIZE_6 4 5 S j (j + 1) h (omega arith) (omega arith)
     (omega arith) (omega arith)
 step_fits_lem (suc (suc (suc (suc (suc (suc (suc n))))))) j S e h = products_of_zero S j (j + 1) h
 
 -- the law on two values, each times an entry
 pub combine_fits_lem : CombineFits
-combine_fits_lem zero S h = products_at 1_073_741_824 1 0 S 1 0 h (omega arith) (omega arith) (omega arith) (omega arith)
-combine_fits_lem (suc zero) S h = products_at 1_073_741_824 2 1 S 2 1 h (omega arith) (omega arith) (omega arith) (omega arith)
-combine_fits_lem (suc (suc zero)) S h = products_at 16_777_216 3 2 S 3 2 h (omega arith) (omega arith) (omega arith) (omega arith)
-combine_fits_lem (suc (suc (suc zero))) S h = products_at 100_000 4 3 S 4 3 h (omega arith) (omega arith) (omega arith) (omega arith)
-combine_fits_lem (suc (suc (suc (suc zero)))) S h = products_at 8_000 5 4 S 5 4 h (omega arith) (omega arith) (omega arith) (omega arith)
-combine_fits_lem (suc (suc (suc (suc (suc zero))))) S h = products_at 1_024 6 5 S 6 5 h (omega arith) (omega arith) (omega arith)
+combine_fits_lem zero S h = products_at MOST_SIZE_1 1 0 S 1 0 h (omega arith) (omega arith) (omega arith) (omega arith)
+combine_fits_lem (suc zero) S h = products_at MOST_SIZE_2 2 1 S 2 1 h (omega arith) (omega arith) (omega arith) (omega arith)
+combine_fits_lem (suc (suc zero)) S h = products_at MOST_SIZE_3 3 2 S 3 2 h (omega arith) (omega arith) (omega arith) (omega arith)
+combine_fits_lem (suc (suc (suc zero))) S h = products_at MOST_SIZE_4 4 3 S 4 3 h (omega arith) (omega arith) (omega arith) (omega arith)
+combine_fits_lem (suc (suc (suc (suc zero)))) S h = products_at MOST_SIZE_5 5 4 S 5 4 h (omega arith) (omega arith) (omega arith) (omega arith)
+combine_fits_lem (suc (suc (suc (suc (suc zero))))) S h = products_at MOST_SIZE_6 6 5 S 6 5 h (omega arith) (omega arith) (omega arith)
     (omega arith)
 combine_fits_lem (suc (suc (suc (suc (suc (suc k)))))) S h = products_of_zero S (suc (suc (suc (suc (suc (suc (suc k)))))))
     (suc (suc (suc (suc (suc (suc k)))))) h

@@ -3,6 +3,7 @@
 use Rattle.std.specs.Prelude.{◌≡◌, ℕ, zero, suc, ◌≤◌, List, length, ℤ, nat_abs}
 use Rattle.lattice_theory.specs.Vector.{entry, IsPrimitive}
 use Rattle.lattice_theory.specs.Affine.{Affine, Vanishes, IsMultiple}
+use Rattle.normal_bounds.specs.declared.limits.TheConstants.{MOST_SIZE_1, MOST_SIZE_2, MOST_SIZE_3, MOST_SIZE_4, MOST_SIZE_5, MOST_SIZE_6}
 
 -- no entry has an absolute value above the bound
 abbrev pub EntriesWithin : ℕ → List ℤ → Type 0
@@ -19,10 +20,10 @@ pub record IsFixedBy (n : ℕ) (points : List (List ℤ)) (f : Affine) : Type 0 
 -- the largest size of points with n coordinates for which the laws promise numbers that fit; 0 where they promise none
 abbrev pub safe_size : ℕ → ℕ
 safe_size zero = 0
-safe_size (suc zero) = 1_073_741_824
-safe_size (suc (suc zero)) = 1_073_741_824
-safe_size (suc (suc (suc zero))) = 16_777_216
-safe_size (suc (suc (suc (suc zero)))) = 100_000
-safe_size (suc (suc (suc (suc (suc zero))))) = 8_000
-safe_size (suc (suc (suc (suc (suc (suc zero)))))) = 1_024
+safe_size (suc zero) = MOST_SIZE_1
+safe_size (suc (suc zero)) = MOST_SIZE_2
+safe_size (suc (suc (suc zero))) = MOST_SIZE_3
+safe_size (suc (suc (suc (suc zero)))) = MOST_SIZE_4
+safe_size (suc (suc (suc (suc (suc zero))))) = MOST_SIZE_5
+safe_size (suc (suc (suc (suc (suc (suc zero)))))) = MOST_SIZE_6
 safe_size (suc (suc (suc (suc (suc (suc (suc n))))))) = 0

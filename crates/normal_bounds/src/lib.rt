@@ -11,5 +11,6 @@ pub mod absolute_sums;
 pub mod bounds;
 mod examples;
 pub mod fits;
+pub mod limits;
 
 pub use examples::{safe_sizes_are_an_example, two_points_are_an_example};
