@@ -1,0 +1,9 @@
+pub mod Sets
+pub mod Separations
+pub mod Meets
+pub mod Heights
+pub mod DualFaces
+pub mod Climbs
+pub mod FaceTests
+pub mod FaceTables
+pub mod ExampleFaces

@@ -1,0 +1,11 @@
+pub use Rattle.lattice_theory.specs.Vector
+pub use Rattle.lattice_theory.specs.Affine
+pub mod Sets
+pub mod Chains
+pub mod Faces
+pub mod Meets
+pub mod Closures
+pub mod Ranks
+pub mod Pairings
+pub mod Laws
+pub mod Examples

@@ -1,0 +1,37 @@
+//! Ranks and coranks, and how they are found.
+ghost use Rattle.face_theory.specs.Laws.{RankIsUnique, CorankIsUnique, RankStep, CorankStep, TableHasRanks, TableHasCoranks, RankRises};
+
+/// A face has one rank.
+pub fn rank_is_unique()
+    ensures { RankIsUnique }
+{}
+
+/// A face has one corank.
+pub fn corank_is_unique()
+    ensures { CorankIsUnique }
+{}
+
+/// Counting over ranked faces, among which each face strictly within a face stands, gives its rank.
+pub fn rank_step()
+    ensures { RankStep }
+{}
+
+/// The same from above gives its corank.
+pub fn corank_step()
+    ensures { CorankStep }
+{}
+
+/// A table of all faces by rising numbers of members, ranked face by face, has the ranks.
+pub fn table_has_ranks()
+    ensures { TableHasRanks }
+{}
+
+/// A table of all faces by falling numbers of members, ranked face by face from above, has the coranks.
+pub fn table_has_coranks()
+    ensures { TableHasCoranks }
+{}
+
+/// A face strictly within another has a smaller rank, and fewer members.
+pub fn rank_rises()
+    ensures { RankRises }
+{}
