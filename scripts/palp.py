@@ -12,10 +12,11 @@ import re
 import shlex
 import shutil
 import subprocess
+import sys
 from dataclasses import dataclass, field
 from fractions import Fraction
 from pathlib import Path
-from typing import Any, Dict, Iterable, Iterator, List, Optional, Sequence, Tuple, Union
+from typing import Any, Callable, Dict, Iterable, Iterator, List, NoReturn, Optional, Sequence, Tuple, Union
 
 Matrix = List[List[int]]
 
@@ -313,7 +314,7 @@ class Part:
 def command() -> str:
     """The command that is run: the variable PALP, or `palp` beside this folder, or where it was installed, or on the PATH."""
     here = Path(__file__).resolve().parent
-    places = [os.environ.get("PALP", ""), str(here.parent / "palp"), str(here.parent.parent.parent / "bin" / "palp"), shutil.which("palp") or ""]
+    places = [os.environ.get("PALP", ""), str(here.parent / "palp"), str(here.parent.parent / "bin" / "palp"), shutil.which("palp") or ""]
     for place in places:
         if place and os.path.isfile(place) and os.access(place, os.X_OK):
             return place
@@ -423,3 +424,50 @@ def run(words: str, items: Union[str, bytes, Iterable[Any]] = b"") -> List[Recor
 def alone(words: Sequence[str], item: Item) -> List[Record]:
     found = [it for part in parts(words, [item]) for it in read(part.report)]
     return found or [Record(item.number)]
+
+
+def stop(script: str, status: int, why: str) -> NoReturn:
+    """Ends a script with one line."""
+    print(f"{script}: {why}", file=sys.stderr)
+    sys.exit(status)
+
+
+def input_of(script: str, name: Optional[str]) -> bytes:
+    """The bytes of a file, or of standard input where none is named. Ends the script where it can't be read."""
+    if name is None and sys.stdin.isatty():
+        print(f"{script}: standard input is read from the terminal until Ctrl-D on an empty line", file=sys.stderr)
+    try:
+        return Path(name).read_bytes() if name else sys.stdin.buffer.read()
+    except OSError as fault:
+        stop(script, 2, f"{name or 'standard input'}: {fault.strerror}")
+
+
+def reports_of(script: str, names: Sequence[str]) -> List[Record]:
+    """The records of files behind each other, or of standard input where none is named. Ends the script where one isn't a report."""
+    records: List[Record] = []
+    for name in names or [None]:
+        try:
+            records += read(input_of(script, name))
+        except ReportFault as fault:
+            stop(script, 3, f"{name or 'standard input'}: {fault}")
+    for number, record in enumerate(records, 1):
+        record.item = number
+    return records
+
+
+def end(script: str, main: Callable[[List[str]], int]) -> NoReturn:
+    """Runs a script and ends with its status, which is 7 where what it writes can't be written."""
+    try:
+        try:
+            status = main(sys.argv[1:])
+        except SystemExit as ended:
+            status = ended.code
+        sys.stdout.flush()
+    except KeyboardInterrupt:
+        status = 130
+    except OSError as fault:
+        print(f"{script}: {fault.filename + ': ' if fault.filename else ''}{fault.strerror}", file=sys.stderr)
+        # (Python would try to write the rest again)
+        os.dup2(os.open(os.devnull, os.O_WRONLY), sys.stdout.fileno())
+        status = 7
+    sys.exit(status)

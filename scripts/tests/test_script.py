@@ -3,6 +3,7 @@
 import os
 import shutil
 import subprocess
+import sys
 import tempfile
 import unittest
 from pathlib import Path
@@ -111,6 +112,8 @@ class Installing(unittest.TestCase):
             self.assertEqual(run([str(to / "bin" / "palp"), "install", room])[0], 2)
             status, wrote, _ = run([str(to / "bin" / "palp-table"), "--columns", "points"], "M:11 3 F:3\n")
             self.assertEqual((status, wrote), (0, "points\n11\n"))
+            lines = f"import sys; sys.path.insert(0, {str(to / 'share' / 'palp')!r}); import palp; print(palp.command())"
+            self.assertEqual(run([sys.executable, "-c", lines], PALP="")[1], f"{(to / 'bin' / 'palp').resolve()}\n")
             self.assertTrue((to / "share" / "man" / "man1" / "palp.1").exists())
 
 

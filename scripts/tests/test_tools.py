@@ -51,6 +51,14 @@ class Table(unittest.TestCase):
             said = run(words, text)[2]
             self.assertEqual((said.count("\n"), said if line else None), (1, line))
 
+    def test_a_full_disk(self):
+        if not os.path.exists("/dev/full"):
+            self.skipTest("/dev/full is missing")
+        for words in (["table"], ["hodge-plot", "--help"]):
+            with open("/dev/full", "wb") as full:
+                done = subprocess.run([sys.executable, str(SCRIPTS / words[0]), *words[1:]], input=REPORT.encode(), stdout=full, stderr=subprocess.PIPE, check=False)
+            self.assertEqual((done.returncode, done.stderr.decode()), (7, f"{words[0]}: No space left on device\n"))
+
     def test_help(self):
         for name in ("scan", "table", "hodge-plot", "build"):
             status, wrote, said = run([name, "--help"])
