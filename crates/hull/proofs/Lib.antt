@@ -10,3 +10,5 @@ pub mod FacetBounds
 pub mod VertexSearch
 pub mod FirstPoints
 pub mod BuilderFacts
+mod TightRows
+mod CandidatePoints

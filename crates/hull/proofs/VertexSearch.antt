@@ -5,7 +5,7 @@ use Rattle.std.proofs.Math.Nat.{mul-le-mul_right}
 use Rattle.std.proofs.lemmas.List.Elements.{All-contains, All-weaker, All-contains_itself, Contains-append_left, Contains-push, Contains-push_cases}
 use Rattle.lattice_theory.specs.Vector.{HaveDimension, others}
 use Rattle.lattice_theory.specs.Affine.{Affine, value, IsNonnegative}
-use Rattle.lattice_theory.specs.Size.{size}
+use Rattle.lattice_theory.specs.Size.{size, absolute_sum}
 use Rattle.lattice_theory.specs.Hull.{InHull, IsVertex, AreVertices}
 use Rattle.lattice_theory.specs.Order.{Ascends, LexLess}
 use Rattle.lattice_theory.specs.Facet.{IsFlat, AreFacetsInAnyOrder}
@@ -13,15 +13,18 @@ use Rattle.lattice_theory.proofs.Integers.{linear}
 use Rattle.lattice_theory.proofs.Members.{Each, empty, more, each_from_all, all_from_each}
 use Rattle.facet_theory.specs.Solid.{AreSolid}
 use Rattle.facet_theory.proofs.Vertices.{vertices_by_facets_lem}
+use Rattle.normal_bounds.proofs.Sizes.{point_absolute_sum_lem}
 use Rattle.normal_bounds.proofs.Numbers.{entries_fit_lem}
-use Rattle.hull.specs.steps.Tight.{LiesWith, LiesAlone}
+use Rattle.hull.specs.steps.Tight.{LiesWith, LiesAlone, HasVertices}
 use Rattle.lattice_core.specs.Limits.{IsSized}
+use Rattle.lattice_core.specs.ValueWidths.{FitsWidth, Serves}
+use Rattle.lattice_core.specs.declared.value_widths.Width.{Width}
 use Rattle.lattice_core.proofs.SizeLimits.{limit_bound}
 use Rattle.hull.proofs.Pivots.{take_more}
 use Rattle.hull.proofs.FacetBounds.{facets_bounded_lem, solid_at, no_facet}
 
 -- a list with one more member contains that one and what it contained
-contains_more : {X : Type 0} (xs : List X) (i : ℕ) (x y : X) → i < length xs → x ≡ get_or xs i x
+pub contains_more : {X : Type 0} (xs : List X) (i : ℕ) (x y : X) → i < length xs → x ≡ get_or xs i x
     → Contains (take (i + 1) xs) y ↔ (Contains (take i xs) y ⊎ (x ≡ y))
 contains_more xs i x y h e = subst (λ zs. Contains zs y ↔ (Contains (take i xs) y ⊎ (x ≡ y))) (sym (take_more xs i x h e)) (there, back)
   where
@@ -85,6 +88,17 @@ facets_constants (suc k) points facets d s t h = All-weaker (Contains facets) (�
         (facets_bounded_lem (suc k) points (solid_at k points d s) f ((h f).0 c)).constant power (let b = limit_bound (suc k) in
         omega arith)
 
+-- the facets' values at the points fit the width that serves the points' size
+pub facets_fit : (n : ℕ) (points : List (List ℤ)) (facets : List Affine) (width : Width) → 1 ≤ n → HaveDimension n points
+    → (IsFlat n points → ⊥) → AreFacetsInAnyOrder n points facets → Serves n (size n points) width
+    → All (λ p. All (λ f. FitsWidth width f p) facets) points
+facets_fit zero points facets width some d s h serves = absurd (omega (arith, some))
+facets_fit (suc k) points facets width some d s h serves =
+    All-weaker (λ p. absolute_sum p ≤ size (suc k) points) (λ p. All (λ f. FitsWidth width f p) facets)
+    (λ p small. All-weaker (Contains facets) (λ f. FitsWidth width f p)
+    (λ f c. serves f p (facets_bounded_lem (suc k) points (solid_at k points d s) f ((h f).0 c)) small) facets (All-contains_itself facets))
+    points (point_absolute_sum_lem (suc k) points d)
+
 -- a point of the list is a vertex exactly where no other lies with it, by the law on vertices
 alone_by_law : (n : ℕ) (points : List (List ℤ)) (facets : List Affine) (v : List ℤ) → AreSolid n points
     → AreFacetsInAnyOrder n points facets → Contains points v → LiesAlone points facets v ↔ IsVertex n points v
@@ -112,38 +126,34 @@ vertex_alone zero points facets v d s h c = (
       → p ≡ v) (λ p e t. no_coordinates p v e (All-contains (λ p. length p ≡ 0) points v d c)) points d,
 )
 
--- vs has the vertices among some of the points
-abbrev pub HasVertices : ℕ → List (List ℤ) → List (List ℤ) → List (List ℤ) → Type 0
-HasVertices n points some vs = (v : List ℤ) → Contains vs v ↔ (Contains some v × IsVertex n points v)
-
 -- one more point that isn't a vertex
-has_same : (n : ℕ) (points vs : List (List ℤ)) (i : ℕ) (p : List ℤ) → i < length points → p ≡ get_or points i p → (IsVertex n points p → ⊥)
-    → HasVertices n points (take i points) vs → HasVertices n points (take (i + 1) points) vs
-has_same n points vs i p h e other k v = (there, back)
+has_same : (n : ℕ) (points some vs : List (List ℤ)) (i : ℕ) (p : List ℤ) → i < length some → p ≡ get_or some i p → (IsVertex n points p → ⊥)
+    → HasVertices n points (take i some) vs → HasVertices n points (take (i + 1) some) vs
+has_same n points some vs i p h e other k v = (there, back)
   where
-    there : Contains vs v → Contains (take (i + 1) points) v × IsVertex n points v
-    there c = let o = (k v).0 c in ((contains_more points i p v h e).1 (inl o.0), o.1)
+    there : Contains vs v → Contains (take (i + 1) some) v × IsVertex n points v
+    there c = let o = (k v).0 c in ((contains_more some i p v h e).1 (inl o.0), o.1)
 
-    back : Contains (take (i + 1) points) v × IsVertex n points v → Contains vs v
-    back (c, x) = ⊎_elim (λ (o : Contains (take i points) v). (k v).1 (o, x))
-        (λ (j : p ≡ v). absurd (other (subst (IsVertex n points) (sym j) x))) ((contains_more points i p v h e).0 c)
+    back : Contains (take (i + 1) some) v × IsVertex n points v → Contains vs v
+    back (c, x) = ⊎_elim (λ (o : Contains (take i some) v). (k v).1 (o, x))
+        (λ (j : p ≡ v). absurd (other (subst (IsVertex n points) (sym j) x))) ((contains_more some i p v h e).0 c)
 
 -- one more vertex
-has_more : (n : ℕ) (points vs : List (List ℤ)) (i : ℕ) (p : List ℤ) → i < length points → p ≡ get_or points i p → IsVertex n points p
-    → HasVertices n points (take i points) vs → HasVertices n points (take (i + 1) points) (vs ++ (p ∷ []))
-has_more n points vs i p h e y k v = (there, back)
+has_more : (n : ℕ) (points some vs : List (List ℤ)) (i : ℕ) (p : List ℤ) → i < length some → p ≡ get_or some i p → IsVertex n points p
+    → HasVertices n points (take i some) vs → HasVertices n points (take (i + 1) some) (vs ++ (p ∷ []))
+has_more n points some vs i p h e y k v = (there, back)
   where
-    there : Contains (vs ++ (p ∷ [])) v → Contains (take (i + 1) points) v × IsVertex n points v
+    there : Contains (vs ++ (p ∷ [])) v → Contains (take (i + 1) some) v × IsVertex n points v
     there c = ⊎_elim
-        (λ (o : Contains vs v). let m = (k v).0 o in ((contains_more points i p v h e).1 (inl m.0), m.1))
-        (λ (j : p ≡ v). ((contains_more points i p v h e).1 (inr j), subst (IsVertex n points) j y))
+        (λ (o : Contains vs v). let m = (k v).0 o in ((contains_more some i p v h e).1 (inl m.0), m.1))
+        (λ (j : p ≡ v). ((contains_more some i p v h e).1 (inr j), subst (IsVertex n points) j y))
         (Contains-push_cases vs p v c)
 
-    back : Contains (take (i + 1) points) v × IsVertex n points v → Contains (vs ++ (p ∷ [])) v
+    back : Contains (take (i + 1) some) v × IsVertex n points v → Contains (vs ++ (p ∷ [])) v
     back (c, x) = ⊎_elim
-        (λ (o : Contains (take i points) v). Contains-append_left vs (p ∷ []) v ((k v).1 (o, x)))
+        (λ (o : Contains (take i some) v). Contains-append_left vs (p ∷ []) v ((k v).1 (o, x)))
         (λ (j : p ≡ v). subst (Contains (vs ++ (p ∷ []))) j (Contains-push vs p))
-        ((contains_more points i p v h e).0 c)
+        ((contains_more some i p v h e).0 c)
 
 -- the vertices, in order
 pub vertices_listed : (n : ℕ) (points found vs : List (List ℤ)) → HasVertices n points points found → Ascends LexLess vs
@@ -161,13 +171,13 @@ vertices_dimension n points found d k =
     (All-contains_itself found)
 
 -- the loop's turn at a vertex, of which a copy is added
-pub turn_added : (n : ℕ) (points vs new : List (List ℤ)) (i : ℕ) (p copy : List ℤ) → i < length points → p ≡ get_or points i p
-    → IsVertex n points p → copy ≡ p → new ≡ vs ++ (copy ∷ []) → HasVertices n points (take i points) vs
-    → HasVertices n points (take (i + 1) points) new
-turn_added n points vs new i p copy h e x c s k = subst (HasVertices n points (take (i + 1) points)) (sym (s ∙ ap (λ q. vs ++ (q ∷ [])) c))
-    (has_more n points vs i p h e x k)
+pub turn_added : (n : ℕ) (points some vs new : List (List ℤ)) (i : ℕ) (p copy : List ℤ) → i < length some → p ≡ get_or some i p
+    → IsVertex n points p → copy ≡ p → new ≡ vs ++ (copy ∷ []) → HasVertices n points (take i some) vs
+    → HasVertices n points (take (i + 1) some) new
+turn_added n points some vs new i p copy h e x c s k = subst (HasVertices n points (take (i + 1) some)) (sym (s ∙ ap (λ q. vs ++ (q ∷ [])) c))
+    (has_more n points some vs i p h e x k)
 
 -- its turn at another point
-pub turn_kept : (n : ℕ) (points vs new : List (List ℤ)) (i : ℕ) (p : List ℤ) → i < length points → p ≡ get_or points i p
-    → (IsVertex n points p → ⊥) → new ≡ vs → HasVertices n points (take i points) vs → HasVertices n points (take (i + 1) points) new
-turn_kept n points vs new i p h e x s k = subst (HasVertices n points (take (i + 1) points)) (sym s) (has_same n points vs i p h e x k)
+pub turn_kept : (n : ℕ) (points some vs new : List (List ℤ)) (i : ℕ) (p : List ℤ) → i < length some → p ≡ get_or some i p
+    → (IsVertex n points p → ⊥) → new ≡ vs → HasVertices n points (take i some) vs → HasVertices n points (take (i + 1) some) new
+turn_kept n points some vs new i p h e x s k = subst (HasVertices n points (take (i + 1) some)) (sym s) (has_same n points some vs i p h e x k)

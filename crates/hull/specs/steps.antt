@@ -2,3 +2,4 @@ pub mod Kernels
 pub mod Search
 pub mod Differences
 pub mod Tight
+pub mod Candidates

@@ -5,6 +5,7 @@
 
 mod bounds;
 mod builder;
+mod candidates;
 mod differences;
 mod facets;
 mod flat;
@@ -14,6 +15,7 @@ mod member;
 mod planes;
 mod reduction;
 mod search;
+mod tight_rows;
 mod vertices;
 
 pub use bounds::facets_bounded;

@@ -11,10 +11,14 @@ ghost use Rattle.lattice_core.specs.Dimensions.{dimension_of};
 ghost use Rattle.lattice_core.specs.PointLists.{AreSolidPoints};
 ghost use Rattle.lattice_core.specs.Stops.{Stops};
 ghost use Rattle.hull.specs.Faults.{IsVerticesRefusal};
-ghost use Rattle.hull.specs.steps.Tight.{LiesWith, LiesAlone};
+ghost use Rattle.hull.specs.steps.Tight.{LiesWith, LiesAlone, HasVertices};
+ghost use Rattle.bit_rows.specs.declared.row.TheConstants.{MOST_INDICES};
 
+use crate::candidates::candidates_of;
+use bit_rows::MOST_INDICES;
 use lattice_core::{
     Fault, Functional, LimitName, MOST_VERTICES, NoMemory, Point, Refusal, ascending_points,
+    size_of, width_of,
 };
 use std::alloc::Global;
 
@@ -44,6 +48,64 @@ fn is_vertex(points: &[Point], facets: &[Functional], v: &Point) -> bool
         .all(|p| p.is_same(v) || !lies_with(facets, v, p))
 }
 
+/// The vertices among points that aren't flat, each at least once. `facets` are the points' facets, in any order.
+fn vertices_by_values(
+    alloc: Global,
+    points: &[Point],
+    facets: &[Functional],
+) -> Result<Vec<Point>, NoMemory>
+    requires points { AreSolidPoints points.now }
+    requires facets { AreFacetsInAnyOrder (dimension_of points.now) points.now facets.now }
+    ensures { IfOk result (λ vs. HasVertices (dimension_of points.now) points.now points.now vs.items) }
+{
+    let mut vertices = Vec::new(alloc);
+    for v in points {
+        if is_vertex(points, facets, v) {
+            vertices.push(v.copied())?;
+        }
+    }
+    Ok(vertices)
+}
+
+/// The same where there are at most 128 facets.
+fn vertices_by_rows(
+    alloc: Global,
+    points: &[Point],
+    facets: &[Functional],
+) -> Result<Vec<Point>, NoMemory>
+    requires points { AreSolidPoints points.now }
+    requires facets { AreFacetsInAnyOrder (dimension_of points.now) points.now facets.now }
+    requires few { length facets.now ≤ MOST_INDICES }
+    ensures { IfOk result (λ vs. HasVertices (dimension_of points.now) points.now points.now vs.items) }
+{
+    let n = points[0].dim();
+    let width = width_of(n, size_of(n, points));
+    let candidates = candidates_of(alloc, points, facets, width)?;
+    let mut vertices = Vec::new(alloc);
+    for c in &candidates {
+        if c.is_lone(&candidates) {
+            vertices.push(c.point.copied())?;
+        }
+    }
+    Ok(vertices)
+}
+
+/// The same for any number of facets.
+fn vertices_found(
+    alloc: Global,
+    points: &[Point],
+    facets: &[Functional],
+) -> Result<Vec<Point>, NoMemory>
+    requires points { AreSolidPoints points.now }
+    requires facets { AreFacetsInAnyOrder (dimension_of points.now) points.now facets.now }
+    ensures { IfOk result (λ vs. HasVertices (dimension_of points.now) points.now points.now vs.items) }
+{
+    if facets.len() > MOST_INDICES {
+        return vertices_by_values(alloc, points, facets);
+    }
+    vertices_by_rows(alloc, points, facets)
+}
+
 /// All vertices of points that aren't flat, each once, in lexicographic order. `facets` are the points' facets, in any order.
 fn all_vertices(
     alloc: Global,
@@ -54,12 +116,7 @@ fn all_vertices(
     requires facets { AreFacetsInAnyOrder (dimension_of points.now) points.now facets.now }
     ensures { IfOk result (λ vs. AreVertices (dimension_of points.now) points.now vs.items) }
 {
-    let mut vertices = Vec::new(alloc);
-    for v in points {
-        if is_vertex(points, facets, v) {
-            vertices.push(v.copied())?;
-        }
-    }
+    let mut vertices = vertices_found(alloc, points, facets)?;
     ascending_points(&mut vertices);
     Ok(vertices)
 }
