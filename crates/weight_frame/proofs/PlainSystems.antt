@@ -1,10 +1,11 @@
 -- Systems that pass the computing tests are well formed and within the limits.
-use Rattle.std.proofs.Common.{◌≡◌, ℕ, zero, suc, ◌<◌, ◌≤◌, true, ◌==◌, nat_lt, List, [], ◌∷◌, length, refl, slice_index_or, zero-lt-suc, arith}
+use Rattle.std.proofs.Common.{◌≡◌, ℕ, zero, suc, ◌+◌, ◌<◌, ◌≤◌, true, ◌==◌, nat_lt, List, [], ◌∷◌, length, refl, slice_index_or, zero-lt-suc, arith}
 use Rattle.std.proofs.lemmas.Bool.{eqb-true, and_parts}
 use borrow.Author.Tests.{ltb-true}
 use Rattle.std.proofs.Math.Nat.{mul-le-mul}
 use Rattle.lattice_theory.proofs.Members.{Each, empty, more, all_from_each}
 use Rattle.lattice_core.specs.Weights.{Weighted, total, IsSummed, AreWellFormed, AreWithinLimits}
+use Rattle.lattice_core.specs.declared.limits.TheConstants.{MOST_WEIGHTS, MOST_DEGREE}
 use Rattle.weight_frame.specs.steps.Plain.{are_positive, is_summed, is_plain}
 
 -- a summed system
@@ -12,7 +13,7 @@ pub record IsSmallSystem (n degree : ℕ) (weights : List ℕ) : Type 0 where
   pub count : length weights ≡ n
   pub sum : total weights ≡ degree
   pub least : 1 ≤ degree
-  pub most : degree ≤ 32_767
+  pub most : degree ≤ MOST_DEGREE
 
 summed_small : (n degree : ℕ) (weights : List ℕ) → is_summed n degree weights ≡ true → IsSmallSystem n degree weights
 summed_small n degree weights e =
@@ -22,7 +23,7 @@ summed_small n degree weights e =
       count = eqb-true (length weights) n (and_parts (length weights == n) _ e).0;
       sum = eqb-true (total weights) degree (and_parts (total weights == degree) _ rest).0;
       least = ltb-true 0 degree (and_parts (nat_lt 0 degree) _ bounds).0;
-      most = let h = ltb-true degree 32_768 (and_parts (nat_lt 0 degree) _ bounds).1 in omega arith;
+      most = let h = ltb-true degree (MOST_DEGREE + 1) (and_parts (nat_lt 0 degree) _ bounds).1 in omega arith;
     }
 
 -- positive weights
@@ -35,7 +36,7 @@ positive_at (w ∷ weights) (suc place) e h = positive_at weights place (and_par
 pub record IsPlainSystem (degree : ℕ) (weights : List ℕ) : Type 0 where
   pub small : IsSmallSystem (length weights) degree weights
   pub positive : are_positive weights ≡ true
-  pub most : length weights ≤ 12
+  pub most : length weights ≤ MOST_WEIGHTS
 
 plain_system : (degree : ℕ) (weights : List ℕ) → is_plain degree weights ≡ true → IsPlainSystem degree weights
 plain_system degree weights e =
@@ -44,7 +45,7 @@ plain_system degree weights e =
     record {
       small = summed_small (length weights) degree weights (and_parts (is_summed (length weights) degree weights) _ rest).0;
       positive = (and_parts (are_positive weights) _ e).0;
-      most = let h = ltb-true (length weights) 13 (and_parts (nat_lt 0 (length weights)) _ counts).1 in omega arith;
+      most = let h = ltb-true (length weights) (MOST_WEIGHTS + 1) (and_parts (nat_lt 0 (length weights)) _ counts).1 in omega arith;
     }
 
 -- systems of which the first has positive weights
@@ -69,7 +70,7 @@ limited_one first e =
     record {
       few = omega arith;
       weights = p.most;
-      degrees = all_from_each {P = λ s. s.degree ≤ 32_767} (more most empty);
+      degrees = all_from_each {P = λ s. s.degree ≤ MOST_DEGREE} (more most empty);
       product = omega arith;
     }
 
@@ -86,6 +87,6 @@ limited_two first second e f =
     record {
       few = omega arith;
       weights = p.most;
-      degrees = all_from_each {P = λ s. s.degree ≤ 32_767} (more p.small.most (more q.most empty));
+      degrees = all_from_each {P = λ s. s.degree ≤ MOST_DEGREE} (more p.small.most (more q.most empty));
       product = let h = mul-le-mul p.small.most q.most in omega arith;
     }

@@ -1,5 +1,5 @@
 -- The frame of a weight lattice: an integer basis that is made by a recursion over the weight systems. This project's own.
-use Rattle.std.specs.Prelude.{◌≡◌, ◌≢◌, ℕ, ◌*◌, ◌<◌, ◌≤◌, max, List, [], ◌∷◌, ◌++◌, length, map, ℤ, pos, negsuc, neg_ℤ, ◌+ℤ◌, ◌*ℤ◌, ◌<ℤ◌, nat_abs, slice_index_or}
+use Rattle.std.specs.Prelude.{◌≡◌, ℕ, ◌*◌, ◌<◌, ◌≤◌, max, List, [], ◌∷◌, ◌++◌, length, map, ℤ, pos, negsuc, neg_ℤ, ◌+ℤ◌, ◌*ℤ◌, ◌<ℤ◌, nat_abs, slice_index_or}
 use Rattle.std.specs.List.{All}
 use Rattle.lattice_theory.specs.Vector.{entry, dot, scaled, DividesInteger, IsUnitVector}
 use Rattle.lattice_core.specs.declared.limits.TheConstants.{MOST_FRAME_ENTRY}

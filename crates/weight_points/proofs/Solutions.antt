@@ -1,16 +1,16 @@
 -- The list of all exponent vectors: the vectors of a box that have the degree of each system.
-use Rattle.std.specs.List.{All, filter, list_all}
+use Rattle.std.specs.List.{All}
 use Rattle.std.specs.Prelude.{ℤ, pos, ◌-ℤ◌, ◌≤ℤ◌, ◌==◌, nat_abs, replicate}
-use Rattle.std.proofs.Common.{◌≡◌, ℕ, zero, suc, ◌<◌, ◌≤◌, true, List, [], ◌∷◌, length, refl, sym, ◌∙◌, subst, arith, le_of_suc-le-suc}
+use Rattle.std.proofs.Common.{◌≡◌, ℕ, zero, suc, ◌<◌, ◌≤◌, true, List, length, refl, sym, ◌∙◌, arith, le_of_suc-le-suc}
 use Rattle.std.proofs.lemmas.Bool.Decides.{Decides-eqb}
 use Rattle.std.proofs.lemmas.Int.{ints}
-use Rattle.std.proofs.lemmas.List.{length-replicate, get_or_default}
-use Rattle.std.proofs.lemmas.List.Elements.{All-from_get_or, All-get_or}
+use Rattle.std.proofs.lemmas.List.{length-replicate}
+use Rattle.std.proofs.lemmas.List.Elements.{All-from_get_or}
 use Rattle.lattice_theory.specs.Vector.{entry}
-use Rattle.lattice_theory.specs.Order.{LexLess, Lists}
+use Rattle.lattice_theory.specs.Order.{LexLess}
 use Rattle.lattice_theory.specs.Grid.{grid, IsInBox}
 use Rattle.lattice_theory.proofs.GridLists.{grid_lists}
-use Rattle.lattice_theory.proofs.Members.{Each, In, each_from_all, all_from_each, each_in, each_from_in, in_from_contains, contains_from_in}
+use Rattle.lattice_theory.proofs.Members.{each_from_all, all_from_each, each_in, each_from_in, in_from_contains, contains_from_in}
 use Rattle.lattice_theory.proofs.Sublists.{in_filter, from_filter, ascends_filter, each_passes, all_pass}
 use Rattle.lattice_core.specs.declared.limits.TheConstants.{MOST_DEGREE}
 use Rattle.lattice_core.specs.Weights.{Weighted, weighted_degree, columns_of, AreWellFormed, IsMonomial}

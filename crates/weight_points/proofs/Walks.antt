@@ -1,11 +1,10 @@
 -- A step from one exponent vector to the next, as a step through the list of all.
 use Rattle.std.specs.List.{All}
-use Rattle.std.specs.Prelude.{ℤ, pos, ◌≤ℤ◌, ◌<ℤ◌}
-use Rattle.std.proofs.Common.{◌≡◌, ◌⊎◌, inl, inr, ℕ, zero, suc, ◌+◌, ◌≤◌, Bool, true, false, List, [], ◌∷◌, ◌++◌, length, map, get_or, replicate}
+use Rattle.std.specs.Prelude.{ℤ, pos}
+use Rattle.std.proofs.Common.{◌≡◌, inl, inr, ℕ, zero, suc, ◌+◌, ◌≤◌, Bool, true, false, List, [], ◌∷◌, ◌++◌, length, map, get_or, replicate}
 use Rattle.std.proofs.Common.{refl, sym, ap, ◌∙◌, subst, arith, min, length-append, append_assoc}
 use Rattle.std.proofs.lemmas.List.{length-map, length-replicate}
 use Rattle.std.proofs.lemmas.Int.{ints}
-use Rattle.lattice_theory.specs.Vector.{entry}
 use Rattle.lattice_theory.specs.Order.{LexLess}
 use Rattle.lattice_theory.specs.Grid.{LexAtMost, IsNext, behind, up_to}
 use Rattle.lattice_theory.proofs.LexPlaces.{first_difference}

@@ -3,19 +3,20 @@
 ghost use Rattle.std.specs.Prelude.{◌≡◌, ℕ, ◌<◌, ◌≤◌, IsTrue};
 ghost use Rattle.std.specs.List.{All};
 ghost use Rattle.lattice_core.specs.Weights.{weighted, weighted_all, IsSummed, HasWeightAt, AreWellFormed, AreWithinLimits};
+ghost use Rattle.lattice_core.specs.declared.limits.TheConstants.{MOST_DEGREE};
 
 use super::columns;
 use crate::{Monomials, count_to};
-use lattice_core::WeightSystem;
+use lattice_core::{MOST_DEGREE, MOST_WEIGHTS, WeightSystem};
 use std::alloc::Global;
 use std::test::Fail;
 
 /// Whether the system has so many weights, whose sum is its degree, from 1 to the greatest one.
 fn is_summed(system: &WeightSystem, count: usize) -> bool
     ensures summed { IsTrue result → IsSummed count (weighted system.now) }
-    ensures small { IsTrue result → system.now.degree ≤ 32_767 }
+    ensures small { IsTrue result → system.now.degree ≤ MOST_DEGREE }
 {
-    if system.weights.len() != count || system.degree == 0 || system.degree > 32_767 {
+    if system.weights.len() != count || system.degree == 0 || system.degree > MOST_DEGREE {
         return false;
     }
     let mut left = system.degree;
@@ -31,7 +32,7 @@ fn is_summed(system: &WeightSystem, count: usize) -> bool
 /// Whether all systems are such ones.
 fn are_summed(systems: &[WeightSystem], count: usize) -> bool
     ensures summed { IsTrue result → All (IsSummed count) (weighted_all systems.now) }
-    ensures small { IsTrue result → All (λ s. s.degree ≤ 32_767) (weighted_all systems.now) }
+    ensures small { IsTrue result → All (λ s. s.degree ≤ MOST_DEGREE) (weighted_all systems.now) }
 {
     for system in systems {
         if !is_summed(system, count) {
@@ -71,7 +72,7 @@ fn are_valid(systems: &[WeightSystem]) -> bool
     ensures limits { IsTrue result → AreWithinLimits (weighted_all systems.now) }
 {
     let count = columns(systems);
-    if systems.is_empty() || systems.len() > 2 || count > 12 {
+    if systems.is_empty() || systems.len() > 2 || count > MOST_WEIGHTS {
         return false;
     }
     if !are_summed(systems, count) {
