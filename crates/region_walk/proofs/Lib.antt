@@ -1,0 +1,11 @@
+pub mod Quotients
+pub mod Values
+pub mod Cuts
+pub mod Levels
+pub mod Starts
+pub mod Openings
+pub mod Steps
+pub mod Measures
+pub mod Looking
+pub mod Walking
+pub mod Runs
