@@ -140,14 +140,14 @@ table_stands R table h y py = let i = from_map (λ (r : RankedFace). r.set) tabl
     record { ranked = i.source; member = i.member; is = sym i.is }
 
 -- the test of order
-below_sound : (R : TightRelation) (a b : List Bool) → is_proper_part a b ≡ true → IsProperPart a b
+pub below_sound : (R : TightRelation) (a b : List Bool) → is_proper_part a b ≡ true → IsProperPart a b
 below_sound R a b e = let p = and_parts (is_part a b) (not (is_same a b)) e in (
   is_part-true a b p.0,
   λ s. true_false (subst (λ (c : List Bool). is_same a c ≡ true) s (is_same_refl a))
       (not-true (is_same a b) p.1),
 )
 
-below_complete : (R : TightRelation) (a b : List Bool) → IsFace R a → IsFace R b → IsProperPart a b → is_proper_part a b ≡ true
+pub below_complete : (R : TightRelation) (a b : List Bool) → IsFace R a → IsFace R b → IsProperPart a b → is_proper_part a b ≡ true
 below_complete R a b fa fb h = and_from (is_part a b) (not (is_same a b)) (part-true a b (fa.width ∙ sym fb.width) h.0)
     (not_from_false (is_same a b) (false_from_ne_true (is_same a b) (λ e. h.1 (is_same-true a b e))))
 

@@ -5,5 +5,6 @@ pub mod Heights
 pub mod DualFaces
 pub mod Climbs
 pub mod FaceTests
+pub mod FaceLists
 pub mod FaceTables
 pub mod ExampleFaces

@@ -37,7 +37,18 @@ abbrev pub FacesAreCounted : Type 0
 FacesAreCounted = (R : TightRelation) (some all : List (List Bool)) → AllPairs (λ a b. a ≢ b) some
     → ((x : List Bool) → Contains some x → IsFace R x) → AreFaces R all → length some ≤ length all
 
--- a face has one rank and one corank
+-- the faces are finitely many: there is the list of them
+abbrev pub FacesAreListed : Type 0
+FacesAreListed = (R : TightRelation) → (faces : List (List Bool)) × AreFaces R faces
+
+-- each face has a rank and a corank
+abbrev pub RankExists : Type 0
+RankExists = (R : TightRelation) (face : List Bool) → IsFace R face → (k : ℕ) × IsRank R face k
+
+abbrev pub CorankExists : Type 0
+CorankExists = (R : TightRelation) (face : List Bool) → IsFace R face → (k : ℕ) × IsCorank R face k
+
+-- it has one rank and one corank
 abbrev pub RankIsUnique : Type 0
 RankIsUnique = (R : TightRelation) (face : List Bool) (j k : ℕ) → IsRank R face j → IsRank R face k → j ≡ k
 

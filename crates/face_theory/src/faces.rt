@@ -1,5 +1,5 @@
 //! Faces as what rows of functions have in common, and how many there are.
-ghost use Rattle.face_theory.specs.Laws.{FacesAreMeets, MeetsAreFaces, MeetsStart, MeetsGrow, FaceIsClosure, FacesAreCounted};
+ghost use Rattle.face_theory.specs.Laws.{FacesAreMeets, MeetsAreFaces, MeetsStart, MeetsGrow, FaceIsClosure, FacesAreCounted, FacesAreListed};
 
 /// The faces are exactly what rows of functions have in common; where no function is taken, that is the set of all members.
 pub fn faces_are_meets()
@@ -29,4 +29,9 @@ pub fn face_is_closure()
 /// Faces that all differ are no more than all faces.
 pub fn faces_are_counted()
     ensures { FacesAreCounted }
+{}
+
+/// The faces are finitely many, so there is the list of them.
+pub fn faces_are_listed()
+    ensures { FacesAreListed }
 {}

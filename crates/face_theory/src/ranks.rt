@@ -1,5 +1,5 @@
 //! Ranks and coranks, and how they are found.
-ghost use Rattle.face_theory.specs.Laws.{RankIsUnique, CorankIsUnique, RankStep, CorankStep, TableHasRanks, TableHasCoranks, RankRises};
+ghost use Rattle.face_theory.specs.Laws.{RankIsUnique, CorankIsUnique, RankStep, CorankStep, TableHasRanks, TableHasCoranks, RankRises, RankExists, CorankExists};
 
 /// A face has one rank.
 pub fn rank_is_unique()
@@ -34,4 +34,14 @@ pub fn table_has_coranks()
 /// A face strictly within another has a smaller rank, and fewer members.
 pub fn rank_rises()
     ensures { RankRises }
+{}
+
+/// Each face has a rank.
+pub fn rank_exists()
+    ensures { RankExists }
+{}
+
+/// Each face has a corank.
+pub fn corank_exists()
+    ensures { CorankExists }
 {}
