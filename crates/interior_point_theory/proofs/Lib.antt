@@ -1,0 +1,11 @@
+pub mod WeightVectors
+pub mod Around
+pub mod Surrounded
+pub mod Tails
+pub mod LargestWeights
+pub mod ExponentsAboveOne
+pub mod Following
+pub mod Ones
+pub mod WeightWalks
+pub mod Degrees
+pub mod ExampleSteps
