@@ -47,9 +47,8 @@ class Table(unittest.TestCase):
             (["hodge-plot", "--to", "x.gif"], REPORT, 2, None),
             (["hodge-plot", "--to", "x.png"], "M:11 3 F:3\n", 3, "hodge-plot: no line has the Hodge numbers of a threefold, so there is nothing to draw\n"),
         ]:
-            self.assertEqual(run(words, text)[0], status)
-            said = run(words, text)[2]
-            self.assertEqual((said.count("\n"), said if line else None), (1, line))
+            found, _, said = run(words, text)
+            self.assertEqual((found, said.count("\n"), said if line else None), (status, 1, line))
 
     def test_a_full_disk(self):
         if not os.path.exists("/dev/full"):
@@ -108,14 +107,14 @@ class Scan(unittest.TestCase):
         return run(["scan", *words], text, folder=self.room.name, PARALLEL_HOME=self.room.name)
 
     def test_none_is_lost(self):
-        for block in ("1", "2", "100"):
+        for block in ("2", "100"):
             status, wrote, said = self.scan("--block", block, "poly", "-n")
             self.assertEqual((status, wrote), (3, MIXED_REPORT))
             self.assertEqual(said, "".join(f"palp: {it}\n" for it in CAUSES) + "scan: 6 items: 3 reported, 1 refused, 2 faulty\n")
         self.assertEqual([it for it in os.listdir(self.room.name) if it.startswith("scan-")], [])
 
     def test_slices_are_the_list(self):
-        parts = [self.scan("--slice", f"{k}/4", "poly", "-n") for k in (1, 2, 3, 4)]
+        parts = [self.scan("--slice", f"{k}/2", "poly", "-n") for k in (1, 2)]
         self.assertEqual("".join(it[1] for it in parts), MIXED_REPORT)
         notes = [line for it in parts for line in it[2].splitlines() if line.startswith("palp: ")]
         self.assertEqual(notes, [f"palp: {it}" for it in CAUSES])
