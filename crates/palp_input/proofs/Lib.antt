@@ -8,7 +8,12 @@ pub mod Alike
 pub mod SettledLines
 pub mod SettledItems
 pub mod SettledEnds
+pub mod Gaps
+pub mod Rests
+pub mod Headers
+pub mod HeldFronts
 pub mod NextAnswers
+pub mod TakenAnswers
 pub mod Readings
 pub mod ItemForms
 pub mod KeptNumbers

@@ -5,12 +5,12 @@ use Rattle.std.specs.Io.KnownBytes.{IsAtEnd}
 use Rattle.std.proofs.lemmas.List.{append-nil, take-append-le}
 use Rattle.std.proofs.lemmas.Bool.Decides.{nat_tests}
 use Rattle.palp_io.specs.Source.{SourceState, HasEnded, Passes}
-use Rattle.palp_io.proofs.SourceLemmas.{Passes-none, Passes-told}
+use Rattle.palp_io.proofs.SourceLemmas.{Passes-told}
 use Rattle.palp_input.specs.Pieces.{line_feed}
 use Rattle.palp_input.specs.ItemSteps.{IsLineEnd}
 use Rattle.palp_input.specs.Grammar.{Listed, listed, Next, Nothing, Given, Faulty, Known, Beyond, next_within, ends_within, next_of, most_bytes, line_feeds, column_behind, text_fault}
-use Rattle.palp_input.specs.Reading.{ReaderState, IsNextItem, IsNextTaken, IsHanded, GivesItem, NextMeans, AnswerMeans}
-use Rattle.palp_input.specs.ReaderSteps.{IsReader, IsHeldItem, HeldMeans, TakeAllMeans, LastMeans}
+use Rattle.palp_input.specs.Reading.{ReaderState, IsNextItem, IsNextTaken, GivesItem, AnswerMeans}
+use Rattle.palp_input.specs.ReaderSteps.{IsReader, LastMeans}
 use Rattle.palp_input.specs.declared.fault.ItemFault.{ItemFault}
 use Rattle.palp_input.specs.declared.fault.TextFault.{TextFault}
 use Rattle.palp_input.specs.declared.fault.NextFault.{NextFault}
@@ -175,15 +175,16 @@ module _ (before : ReaderState) (bytes : List ℕ) (source source_now : SourceSt
   fault_next fault le e = fault_told fault le e source.left refl
 
 -- what a reader holds
-pub held_most : (position bytes lines : ℕ) (items : List ℕ) (live ended : Bool) (now : ReaderState) → IsReader position bytes lines items
+pub held_most : (position bytes lines : ℕ) (items : List ℕ) (next_take : ℕ) (live ended : Bool) (now : ReaderState)
+    → IsReader position bytes lines items next_take
     → record { bytes = bytes; lines = lines; held = drop position items; live = live; ended = ended } ≡ now
     → (now.bytes + length now.held ≤ most_bytes + 1) × (now.bytes ≤ most_bytes)
-held_most position bytes lines items live ended now h e =
+held_most position bytes lines items next_take live ended now h e =
     subst (λ (s : ReaderState). (s.bytes + length s.held ≤ most_bytes + 1) × (s.bytes ≤ most_bytes)) e
     (omega (arith, h.most, length-drop position items), h.passed_most)
 
 -- an item of the bytes held and taken
-gives_item : (before now : ReaderState) (bytes held : List ℕ) (source : SourceState) (item : Item) (end : ℕ)
+pub gives_item : (before now : ReaderState) (bytes held : List ℕ) (source : SourceState) (item : Item) (end : ℕ)
     → before.held ++ bytes ≡ held → 1 ≤ end → end ≤ length held → before.bytes + end ≤ most_bytes → next_of held ≡ Given (listed item) end
     → now ≡ record {
       bytes = before.bytes + end;
@@ -211,23 +212,11 @@ gives_item before now bytes held source item end e some within most first parts 
   ended_unless = λ no_end. unless (λ line_end. no_end (ap (λ (xs : List ℕ). slice_index xs (end - 1)) e ∙ line_end));
 }
 
--- an item that is held with the line end behind it
-held_next : (before : ReaderState) (item : Listed) (end : ℕ) → 1 ≤ end → end ≤ length before.held → before.bytes + end ≤ most_bytes
-    → next_of before.held ≡ Given item end → slice_index before.held (end - 1) ≡ line_feed → (left : Option (List ℕ))
-    → IsNextItem before left (Known (Given item end))
-held_next before item end some inside most first line None = tt
-held_next before item end some inside most first line (Some left) =
-    known_item (most_bytes - before.bytes) (before.held ++ left) item end
-    (line_settled_item before.held left item end some inside first line) (omega (arith, most))
-
-nothing_taken : (a b c : ℕ) → a + b ≤ c → a + b + 0 ≤ c
-nothing_taken a b c h = omega arith
-
-at_least : (n : ℕ) → n ≤ n
+pub at_least : (n : ℕ) → n ≤ n
 at_least n = omega arith
 
 -- the parts after an item, with the reader's own flag
-own_flag : (before now : ReaderState) (end : ℕ) (held : List ℕ)
+pub own_flag : (before now : ReaderState) (end : ℕ) (held : List ℕ)
     → now ≡ record {
       bytes = before.bytes + end;
       lines = before.lines + line_feeds (take end held);
@@ -252,41 +241,6 @@ own_flag before now end held e =
     })
     (sym (ap (λ (s : ReaderState). s.ended) e))
 
-module _ (before now : ReaderState) (source : SourceState) (handed : IsHanded before source)
-    (most : before.bytes + length before.held ≤ most_bytes + 1) where
-  pub held_answer : (item : Item) → IsHeldItem (record before { live = false }) now item
-      → NextMeans (Ok (Some item)) before now source source
-  held_answer item h = record {
-    bytes = [];
-    passes = Passes-none source;
-    most = nothing_taken before.bytes (length before.held) (most_bytes + 1) most;
-    later = at_least source.faults;
-    untaken = λ e. record { nothing = refl; same = refl };
-    handed = λ e. handed (sym (ap (λ (s : ReaderState). s.ended) h.passed) ∙ e);
-    keeps = λ e. ap (λ (s : ReaderState). s.ended) h.passed ∙ e;
-    answer = gives_item before now [] before.held source item h.end (append-nil before.held) h.some h.inside h.within h.is_next
-        (own_flag before now h.end before.held h.passed)
-        (held_next before (listed item) h.end h.some h.inside h.within h.is_next h.line_ends source.left)
-        (λ no_end. absurd (no_end h.line_ends));
-  }
-
-  -- no memory for the item
-  pub held_fault : (fault : NextFault) → HeldMeans (Err fault) (record before { live = false }) now
-      → NextMeans (Err fault) before now source source
-  held_fault (Text fault) h = absurd h
-  held_fault TooLong h = absurd h
-  held_fault Read h = absurd h
-  held_fault NoMemory h = record {
-    bytes = [];
-    passes = Passes-none source;
-    most = nothing_taken before.bytes (length before.held) (most_bytes + 1) most;
-    later = at_least source.faults;
-    untaken = λ e. record { nothing = refl; same = refl };
-    handed = λ e. handed (sym (ap (λ (s : ReaderState). s.ended) h) ∙ e);
-    keeps = λ e. ap (λ (s : ReaderState). s.ended) h ∙ e;
-    answer = ap (λ (s : ReaderState). s.live) h;
-  }
-
 -- the text up to a fault
 same_place : (lines : ℕ) (held bytes left more : List ℕ) (fault : ItemFault) → left ≡ bytes ++ more → fault.at ≤ length (held ++ bytes)
     → text_fault lines (held ++ bytes) fault ≡ text_fault lines (held ++ left) fault
@@ -295,18 +249,28 @@ same_place lines held bytes left more fault e le =
     ap (take fault.at) (rest_is held bytes left more e) ∙ take-append-le fault.at (held ++ bytes) more le in
     ap (λ (xs : List ℕ). record { kind = fault.kind; line = lines + line_feeds xs + 1; column = column_behind 1 xs }) (sym front)
 
+module _ (before : ReaderState) (bytes : List ℕ) (source source_now : SourceState) (passes : Passes source source_now bytes) where
+  pub fault_told_at : (fault : TextFault) (item_fault : ItemFault) → next_of (before.held ++ bytes) ≡ Faulty item_fault
+      → fault ≡ text_fault before.lines (before.held ++ bytes) item_fault
+      → (l : Option (List ℕ)) → source.left ≡ l → IfSome l (λ xs. fault ≡ text_fault before.lines (before.held ++ xs) item_fault)
+  fault_told_at fault item_fault e place None tells = tt
+  fault_told_at fault item_fault e place (Some xs) tells =
+      let m = more_left source source_now xs bytes tells passes in
+      place ∙ same_place before.lines before.held bytes xs m.more item_fault m.is (fault_place (before.held ++ bytes) item_fault e)
+
+-- the reader once bytes were taken
+abbrev pub took : ReaderState → List ℕ → Bool → ReaderState
+took before bytes ended = record { bytes = before.bytes; lines = before.lines; held = before.held ++ bytes; live = false; ended = ended }
+
 room_less : (passed size : ℕ) → passed ≤ most_bytes → most_bytes < passed + size → most_bytes - passed < size
 room_less passed size le h = omega arith
 
-room_of : (passed size : ℕ) → passed + size ≤ most_bytes → size ≤ most_bytes - passed
+pub room_of : (passed size : ℕ) → passed + size ≤ most_bytes → size ≤ most_bytes - passed
 room_of passed size le = omega arith
 
 module _ (before : ReaderState) (bytes : List ℕ) (source source_now : SourceState) (ended : Bool)
     (passed_most : before.bytes ≤ most_bytes) (passes : Passes source source_now bytes)
     (stopped : Stopped before.bytes (before.held ++ bytes) source_now ended) where
-  took : ReaderState
-  took = record { bytes = before.bytes; lines = before.lines; held = before.held ++ bytes; live = false; ended = ended }
-
   has_ended : before.bytes + length (before.held ++ bytes) ≤ most_bytes → (ended ≡ true) × HasEnded source_now
   has_ended le = elim stopped [ inl h ↦ h | inr all ↦ absurd (omega (arith, le, all)) ]
 
@@ -330,14 +294,6 @@ module _ (before : ReaderState) (bytes : List ℕ) (source source_now : SourceSt
       ∙ append-nil (before.held ++ bytes) in
       ap (next_within (most_bytes - before.bytes)) all ∙ end_taken le e
 
-  fault_told_at : (fault : TextFault) (item_fault : ItemFault) → next_of (before.held ++ bytes) ≡ Faulty item_fault
-      → fault ≡ text_fault before.lines (before.held ++ bytes) item_fault
-      → (l : Option (List ℕ)) → source.left ≡ l → IfSome l (λ xs. fault ≡ text_fault before.lines (before.held ++ xs) item_fault)
-  fault_told_at fault item_fault e place None tells = tt
-  fault_told_at fault item_fault e place (Some xs) tells =
-      let m = more_left source source_now xs bytes tells passes in
-      place ∙ same_place before.lines before.held bytes xs m.more item_fault m.is (fault_place (before.held ++ bytes) item_fault e)
-
   beyond_taken : most_bytes < before.bytes + length (before.held ++ bytes)
       → ends_within (most_bytes - before.bytes) (next_of (before.held ++ bytes)) ≡ Beyond
       → IsNextTaken before bytes Beyond
@@ -356,12 +312,11 @@ module _ (before : ReaderState) (bytes : List ℕ) (source source_now : SourceSt
       ∙ long_text room ((before.held ++ bytes) ++ m.more) (omega (arith, less, length-append (before.held ++ bytes) m.more))
       ∙ beyond_settled room (before.held ++ bytes) m.more less e
 
-  last_means : (result : Result (Option Item) NextFault) (now : ReaderState) → LastMeans result took now
+  pub last_means : (result : Result (Option Item) NextFault) (now : ReaderState) → LastMeans result (took before bytes ended) now
       → AnswerMeans result before now bytes source source_now
-  unfolding took
   last_means (Ok (Some item)) now h =
       gives_item before now bytes (before.held ++ bytes) source item h.end refl h.some h.most h.within h.is_next
-      (own_flag took now h.end (before.held ++ bytes) h.passed)
+      (own_flag (took before bytes ended) now h.end (before.held ++ bytes) h.passed)
       (item_next before bytes source source_now ended stopped passes (listed item) h.end h.within h.is_next)
       (λ no_end. ap (λ (s : ReaderState). s.ended) h.passed ∙ last_ended h.end h.within h.line_ends no_end)
   last_means (Ok None) now h = record {
@@ -376,7 +331,7 @@ module _ (before : ReaderState) (bytes : List ℕ) (source source_now : SourceSt
         (room_of before.bytes h.item_fault.end h.within);
     place_taken = h.place;
     is_next = fault_next before bytes source source_now ended stopped passes h.item_fault h.within h.is_next;
-    place = fault_told_at fault h.item_fault h.is_next h.place source.left refl;
+    place = fault_told_at before bytes source source_now passes fault h.item_fault h.is_next h.place source.left refl;
     stops = ap (λ (s : ReaderState). s.live) h.stays;
   }
   last_means (Err TooLong) now h = record {
@@ -388,55 +343,10 @@ module _ (before : ReaderState) (bytes : List ℕ) (source source_now : SourceSt
   last_means (Err NoMemory) now h = ap (λ (s : ReaderState). s.live) h
 
   -- the last step keeps the flag
-  last_flag : (result : Result (Option Item) NextFault) (now : ReaderState) → LastMeans result took now → now.ended ≡ ended
-  unfolding took
+  pub last_flag : (result : Result (Option Item) NextFault) (now : ReaderState) → LastMeans result (took before bytes ended) now → now.ended ≡ ended
   last_flag (Ok (Some item)) now h = ap (λ (s : ReaderState). s.ended) h.passed
   last_flag (Ok None) now h = ap (λ (s : ReaderState). s.ended) h.stays
   last_flag (Err (Text fault)) now h = ap (λ (s : ReaderState). s.ended) h.stays
   last_flag (Err TooLong) now h = ap (λ (s : ReaderState). s.ended) h.stays
   last_flag (Err Read) now h = absurd h
   last_flag (Err NoMemory) now h = ap (λ (s : ReaderState). s.ended) h
-
-stopped_is : (before taken : ReaderState) (bytes : List ℕ) (source : SourceState)
-    → taken ≡ record { bytes = before.bytes; lines = before.lines; held = before.held ++ bytes; live = false; ended = taken.ended }
-    → IsHanded taken source → (taken.ended ≡ true) ⊎ (taken.bytes + length taken.held ≡ most_bytes + 1)
-    → Stopped before.bytes (before.held ++ bytes) source taken.ended
-stopped_is before taken bytes source all handed (inl e) = inl (e, handed e)
-stopped_is before taken bytes source all handed (inr full) =
-    inr (sym (ap (λ (s : ReaderState). s.bytes + length s.held) all) ∙ full)
-
--- the answer after all was taken
-pub last_answer : (before begun held now : ReaderState) (result : Result (Option Item) NextFault) (source source_now : SourceState)
-    → before.bytes ≤ most_bytes → begun ≡ record before { live = false }
-    → TakeAllMeans (Ok tt) begun held source source_now
-    → LastMeans result held now → NextMeans result before now source source_now
-unfolding took
-last_answer before begun held now result source source_now passed_most b t h =
-    let all = t.stop.0 ∙ ap (λ (s : ReaderState). record s { held = s.held ++ t.bytes; ended = held.ended }) b in
-    let stopped = stopped_is before held t.bytes source_now all t.handed t.stop.1 in
-    let last = subst (λ (s : ReaderState). LastMeans result s now) all h in
-    record {
-      bytes = t.bytes;
-      passes = t.passes;
-      most = subst (λ (s : ReaderState). s.bytes + length s.held + length t.bytes ≤ most_bytes + 1) b t.most;
-      later = t.later;
-      untaken = λ e. t.untaken (ap (λ (s : ReaderState). s.ended) b ∙ e);
-      keeps = λ e. last_flag before t.bytes source source_now held.ended passed_most t.passes stopped result now last
-          ∙ t.keeps (ap (λ (s : ReaderState). s.ended) b ∙ e);
-      handed = λ e. t.handed (sym (last_flag before t.bytes source source_now held.ended passed_most t.passes stopped result now last) ∙ e);
-      answer = last_means before t.bytes source source_now held.ended passed_most t.passes stopped result now last;
-    }
-
--- nothing is taken where a take has answered `End` before
-pub already_ended : (state : ReaderState) (source : SourceState) → state.ended ≡ true → IsHanded state source
-    → state.bytes + length state.held ≤ most_bytes + 1 → TakeAllMeans (Ok tt) state state source source
-already_ended state source ended handed most = record {
-  bytes = [];
-  passes = Passes-none source;
-  most = nothing_taken state.bytes (length state.held) (most_bytes + 1) most;
-  later = at_least source.faults;
-  untaken = λ e. record { nothing = refl; same = refl };
-  handed = handed;
-  keeps = λ e. e;
-  stop = (ap (λ (xs : List ℕ). record state { held = xs }) (sym (append-nil state.held)), inl ended);
-}

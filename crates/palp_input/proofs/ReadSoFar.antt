@@ -11,7 +11,7 @@ use Rattle.palp_input.specs.declared.pieces.Piece.{Piece}
 use Rattle.palp_input.specs.declared.pieces.Piece.TheVariants.{Token, Wrong, LineEnd}
 use Rattle.palp_input.specs.Numerals.{numeral_of}
 use Rattle.palp_input.specs.Lines.{LineRead, LeadingNumbers, FaultyLine, before_line, MatrixRead, AllEntries, FaultyMatrix, MissingEntries, before_entries, matrix_read, matrix_token}
-use Rattle.palp_input.specs.LineSteps.{entry_in_front, EntryEndsAt, EntryMeans}
+use Rattle.palp_input.specs.LineSteps.{matrix_behind, entry_in_front, EntryEndsAt, EntryMeans}
 use Rattle.palp_input.specs.declared.lines.LineNumber.{LineNumber}
 use Rattle.palp_input.specs.declared.fault.ItemFault.{ItemFault}
 
@@ -34,11 +34,6 @@ line_behind-end (first ∷ numbers) = ap (before_line first) (line_behind-end nu
 pub line_behind-fault : (numbers : List LineNumber) (fault : ItemFault) → line_behind numbers (FaultyLine fault) ≡ FaultyLine fault
 line_behind-fault [] fault = refl
 line_behind-fault (first ∷ numbers) fault = ap (before_line first) (line_behind-fault numbers fault)
-
--- entries in front of the rest of a matrix
-abbrev pub matrix_behind : List ℤ → MatrixRead → MatrixRead
-matrix_behind [] rest = rest
-matrix_behind (entry ∷ entries) rest = before_entries entry (matrix_behind entries rest)
 
 -- one entry more
 pub matrix_behind-push : (entries : List ℤ) (entry : ℤ) (rest : MatrixRead)

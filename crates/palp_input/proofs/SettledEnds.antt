@@ -140,7 +140,7 @@ module _ (first t : List ℕ) (feed : EndsInFeed first) where
   here_is = append-nil first
 
   -- the entries that stand behind a line of the text end before its last line end
-  last_entry : (count end : ℕ) (entries : List ℤ) (after : ℕ) → end ≤ length first
+  pub last_entry : (count end : ℕ) (entries : List ℤ) (after : ℕ) → end ≤ length first
       → matrix_read (first ++ []) (suc count) end (pieces_of end (drop end (first ++ []))) ≡ AllEntries entries after → after < length first
   last_entry count end entries after le e = cases (cases_eq end (length first))
     where

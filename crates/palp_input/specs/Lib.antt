@@ -15,3 +15,4 @@ pub mod LineSteps
 pub mod PieceSteps
 pub mod SystemSteps
 pub mod ItemSteps
+pub mod FrontSteps

@@ -1,6 +1,6 @@
 -- What the steps that read a line or a matrix answer, which only the code and its proofs use: what
 -- they read is in Lines. This project's own.
-use Rattle.std.specs.Prelude.{◌≡◌, ℕ, ◌<◌, ◌≤◌, ℤ, Bool, false, List, [], suc, length, drop}
+use Rattle.std.specs.Prelude.{◌≡◌, ℕ, ◌<◌, ◌≤◌, ℤ, Bool, false, List, [], ◌∷◌, suc, length, drop}
 use Rattle.palp_input.specs.Pieces.{pieces_of}
 use Rattle.palp_input.specs.declared.pieces.Piece.{Piece}
 use Rattle.palp_input.specs.declared.lines.LineNumber.{LineNumber}
@@ -47,6 +47,11 @@ abbrev pub PartMeans : List ℕ → ℕ → Bool → List Piece → Part → Typ
 PartMeans text place first pieces (PartNumber number end) = IsNextNumber text place first pieces number end
 PartMeans text place first pieces Rest = line_read text first pieces ≡ LeadingNumbers []
 PartMeans text place first pieces (PartFault fault) = line_read text first pieces ≡ FaultyLine fault
+
+-- entries in front of the rest of a matrix
+abbrev pub matrix_behind : List ℤ → MatrixRead → MatrixRead
+matrix_behind [] rest = rest
+matrix_behind (entry ∷ entries) rest = before_entries entry (matrix_behind entries rest)
 
 -- what stands in the place of an entry, in front of what follows
 abbrev pub entry_in_front : EntryPart → MatrixRead → MatrixRead

@@ -3,7 +3,7 @@ use Rattle.std.specs.Prelude.{◌≡◌, ◌≢◌, ℕ, ◌+◌, ◌-◌, ◌�
 use Rattle.palp_io.specs.Source.{SourceState, HasEnded, Passes}
 use Rattle.palp_io.specs.Faults.{Rose}
 use Rattle.palp_input.specs.Pieces.{line_feed}
-use Rattle.palp_input.specs.Grammar.{listed, Nothing, Given, Faulty, NextWithin, Known, Beyond, next_within, next_of, most_bytes, line_feeds, text_fault}
+use Rattle.palp_input.specs.Grammar.{Listed, listed, Nothing, Given, Faulty, NextWithin, Known, Beyond, next_within, next_of, most_bytes, line_feeds, text_fault}
 use Rattle.palp_input.specs.declared.fault.ItemFault.{ItemFault}
 use Rattle.palp_input.specs.declared.fault.TextFault.{TextFault}
 use Rattle.palp_input.specs.declared.fault.NextFault.{NextFault}
@@ -71,10 +71,14 @@ pub record GivesTooLong (before now : ReaderState) (bytes : List ℕ) (source : 
   pub is_next : IsNextItem before source.left Beyond
   pub stops : now.live ≡ false
 
--- the source failed
-pub record GivesRead (now : ReaderState) (source source_now : SourceState) : Type 0 where
+-- the source failed, and the next item isn't known from the bytes held and taken: there is none that has
+-- its line end among them
+pub record GivesRead (before now : ReaderState) (bytes : List ℕ) (source source_now : SourceState) : Type 0 where
   pub rose : Rose source.faults source_now.faults
   pub stops : now.live ≡ false
+  pub unended : before.ended ≡ false
+  pub no_item : (item : Listed) (end : ℕ) → next_of (before.held ++ bytes) ≡ Given item end
+      → slice_index (before.held ++ bytes) (end - 1) ≢ line_feed
 
 -- what an answer means
 abbrev pub AnswerMeans : Result (Option Item) NextFault → ReaderState → ReaderState → List ℕ → SourceState → SourceState → Type 0
@@ -82,7 +86,7 @@ AnswerMeans (Ok (Some item)) before now bytes source source_now = GivesItem befo
 AnswerMeans (Ok None) before now bytes source source_now = GivesEnd before now bytes source
 AnswerMeans (Err (Text fault)) before now bytes source source_now = GivesFault before now bytes source fault
 AnswerMeans (Err TooLong) before now bytes source source_now = GivesTooLong before now bytes source
-AnswerMeans (Err Read) before now bytes source source_now = GivesRead now source source_now
+AnswerMeans (Err Read) before now bytes source source_now = GivesRead before now bytes source source_now
 AnswerMeans (Err NoMemory) before now bytes source source_now = now.live ≡ false
 
 -- nothing was taken

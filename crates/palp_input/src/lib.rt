@@ -5,10 +5,13 @@
 #![tactic(auto)]
 
 mod fault;
+mod fronts;
 mod grammar;
 mod item;
 mod laws;
 mod lines;
+#[cfg(test)]
+mod long_texts;
 mod matrices;
 mod numerals;
 mod pieces;

@@ -24,7 +24,7 @@ pub enum Entries {
 
 /// What stands in the place of an entry.
 #[derive(Clone, Copy)]
-enum Part {
+pub enum Part {
     /// An entry, and the place behind it.
     Entry(i64, usize),
     /// A fault.
@@ -64,7 +64,7 @@ pub fn read_entries(
 }
 
 /// What stands in the place of an entry, from the place on.
-fn next_entry(text: &[u8], place: usize) -> Part
+pub fn next_entry(text: &[u8], place: usize) -> Part
     requires { place ≤ length text.now }
     ensures means { EntryMeans text.now place (pieces_of place (drop place text.now)) result }
     ensures within { EntryWithin (length text.now) result }

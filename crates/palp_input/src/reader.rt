@@ -1,13 +1,16 @@
 // A reader of items.
-ghost use Rattle.std.specs.Prelude.{◌≡◌, ◌+◌, ◌≤◌, [], true, false, length, take, drop};
+ghost use Rattle.std.specs.Prelude.{◌≡◌, ◌+◌, ◌≤◌, ◌<◌, ◌^◌, ◌||◌, nat_lt, ◌++◌, replicate, MatchResult, [], true, false, length, take, drop};
 ghost use Rattle.palp_input.specs.Grammar.{line_feeds, column_behind, most_bytes, text_fault};
-ghost use Rattle.palp_input.specs.ReaderSteps.{HeldMeans, LastMeans, TakeAllMeans, TakeIntoMeans};
+ghost use Rattle.palp_input.specs.FrontSteps.{Seen};
+ghost use Rattle.palp_input.specs.ReaderSteps.{HeldMeans, LastMeans, TakeMoreMeans, TakeIntoMeans};
 ghost use Rattle.palp_input.specs.Reading.{IsHanded, NextMeans};
 
 use crate::fault::{ItemFault, NextFault, TextFault};
+use crate::fronts::{Front, Look, look_at};
 use crate::grammar::{Found, first_item};
 use crate::item::Item;
-use palp_io::{Source, Took, count_law, taking_law};
+use lattice_core::NoMemory;
+use palp_io::{Source, Took};
 use std::alloc::Global;
 use std::marker::Model;
 
@@ -15,7 +18,22 @@ use std::marker::Model;
 pub const MOST_BYTES: usize = 67_108_864;
 
 /// The most bytes of one take.
-const CHUNK: usize = 4_096;
+const CHUNK: usize = 65_536;
+
+/// The most bytes of the first take, so that a short text costs little.
+const FIRST_TAKE: usize = 4_096;
+
+/// The most bytes of a take behind one that gave next to nothing.
+const LEAST_TAKE: usize = 256;
+
+/// What a look at the bytes held gives.
+#[derive(Drop)]
+enum Held {
+    /// The next item.
+    Item(Item),
+    /// What the bytes begin with, where the next item isn't known from them.
+    Unknown(Front),
+}
 
 /// A reader of the items of a text. Contracts see how many bytes and lines it has passed, the bytes
 /// that it holds, which were taken and aren't passed yet, whether it is live, and whether a take has
@@ -29,6 +47,7 @@ pub struct Reader {
     passed_lines: u64,
     live: bool,
     ended: bool,
+    next_take: usize,
 }
 
 impl Model for Reader {
@@ -46,7 +65,7 @@ impl Model for Reader {
       ended = r.ended;
     } };
 
-    ghost invariant = { λ r. IsReader r.position r.passed_bytes r.passed_lines r.bytes.items };
+    ghost invariant = { λ r. IsReader r.position r.passed_bytes r.passed_lines r.bytes.items r.next_take };
 }
 
 impl Reader {
@@ -62,6 +81,7 @@ impl Reader {
             passed_lines: 0,
             live: true,
             ended: false,
+            next_take: FIRST_TAKE,
         }
     }
 
@@ -76,54 +96,80 @@ impl Reader {
     /// passed, up to the place at which it ends. The answer is `None` exactly at the end of the text.
     /// `Text` comes exactly where the next item is faulty, and `TooLong` exactly where the text, with
     /// all bytes passed, has more than 67,108,864 bytes and the next item doesn't end within that
-    /// many. `Read` comes only where the source failed, and `NoMemory` where the bytes or the item
-    /// find no memory. After `None`, and after an item whose last line has no line end, the source
-    /// has ended. After an error or `None` the reader isn't live. It never takes more than 67,108,865
-    /// bytes in all, and no later call takes from the source once a take has answered `End`; a
-    /// source that is handed in after that has ended.
+    /// many. `Read` comes only where the source failed, and then no item has its line end in the bytes
+    /// held and taken; `NoMemory` comes where the bytes or the item find no memory. After `None`, and
+    /// after an item whose last line has no line end, the source has ended. After an error or `None`
+    /// the reader isn't live.
+    ///
+    /// It takes at most 65,536 bytes at a time, and takes on only while the next item isn't known. It
+    /// never takes more than 67,108,865 bytes in all, and no later call takes from the source once a
+    /// take has answered `End`; a source that is handed in after that has ended.
     pub fn next_item<S: Source>(&mut self, src: &mut S) -> Result<Option<Item>, NextFault>
         requires live { self.old.live ≡ true }
         requires handed { IsHanded self.old (S.state src.old) }
         ensures { NextMeans result self.old self.new (S.state src.old) (S.state src.new) }
     {
         self.live = false;
-        match self.held_item() {
-            Ok(None) => {}
-            Ok(Some(item)) => return Ok(Some(item)),
-            Err(fault) => return Err(fault),
-        }
-        match self.take_all(src) {
-            Ok(()) => self.last_item(),
-            Err(fault) => Err(fault),
+        let mut front = Front::Blank;
+        let mut looked = 0;
+        loop {
+            match self.look_on(looked, front)? {
+                Held::Item(item) => return Ok(Some(item)),
+                Held::Unknown(seen) => front = seen,
+            }
+            if self.has_all() {
+                return self.last_item();
+            }
+            looked = self.held_len();
+            self.take_more(src)?;
         }
     }
 
-    /// The next item, where it is held with the line end behind it, so that no more bytes can change it.
-    fn held_item(&mut self) -> Result<Option<Item>, NextFault>
+    /// What the bytes held tell of the next item, where so many of them were looked at before. An item
+    /// that is known is passed.
+    fn look_on(&mut self, looked: usize, front: Front) -> Result<Held, NextFault>
+        requires within { looked ≤ length self.old.held }
+        requires seen { Seen (take looked self.old.held) front }
         ensures { HeldMeans result self.old self.new }
     {
         let rest = &self.bytes[self.position..];
-        match first_item(self.alloc, rest)? {
-            Found::Given(item, end)
-                if rest[end - 1] == b'\n' && self.passed_bytes + end <= MOST_BYTES => {
+        match look_at(self.alloc, rest, looked, front)? {
+            Look::Known(item, end) if self.passed_bytes + end <= MOST_BYTES => {
                 self.pass(end);
-                Ok(Some(item))
+                Ok(Held::Item(item))
             }
-            _ => Ok(None),
+            Look::Known(_, _) => Err(NextFault::TooLong),
+            Look::Faulty(fault) => Err(NextFault::Text(self.placed(fault))),
+            Look::Unknown(front) => Ok(Held::Unknown(front)),
         }
     }
 
-    /// Takes until the source ends or one byte more than a text may have was taken.
-    fn take_all<S: Source>(&mut self, src: &mut S) -> Result<(), NextFault>
-        requires { IsHanded self.old (S.state src.old) }
-        ensures { TakeAllMeans result self.old self.new (S.state src.old) (S.state src.new) }
+    /// The number of bytes held.
+    fn held_len(&self) -> usize
+        ensures { result ≡ length self.now.held }
     {
-        if self.ended {
-            return Ok(());
-        }
-        let held = self.bytes.len() - self.position;
-        let room = MOST_BYTES + 1 - self.passed_bytes - held;
-        self.ended = take_into(&mut self.bytes, room, src)?;
+        self.bytes.len() - self.position
+    }
+
+    /// Whether nothing more is taken: the source has ended, or the text is too long.
+    fn has_all(&self) -> bool
+        ensures { result ≡ self.now.ended || nat_lt most_bytes (self.now.bytes + length self.now.held) }
+    {
+        self.ended || self.passed_bytes + (self.bytes.len() - self.position) > MOST_BYTES
+    }
+
+    /// Takes once. The bytes that are passed give way to those that are held.
+    fn take_more<S: Source>(&mut self, src: &mut S) -> Result<(), NextFault>
+        requires unended { self.old.ended ≡ false }
+        requires room { self.old.bytes + length self.old.held ≤ most_bytes }
+        ensures { TakeMoreMeans result self.old self.new (S.state src.old) (S.state src.new) }
+    {
+        drop_front(&mut self.bytes, self.position);
+        self.position = 0;
+        let room = MOST_BYTES + 1 - self.passed_bytes - self.bytes.len();
+        let count = take_into(&mut self.bytes, room.min(self.next_take), src)?;
+        self.ended = count == 0;
+        self.next_take = next_take(count);
         Ok(())
     }
 
@@ -178,28 +224,58 @@ impl Reader {
     }
 }
 
-/// Takes until the source ends or so many bytes were taken, and appends them.
-fn take_into<S: Source>(bytes: &mut Vec<u8>, room: usize, src: &mut S) -> Result<bool, NextFault>
+/// Takes once, at most so many bytes, and appends them. No byte comes only where the source has ended.
+fn take_into<S: Source>(bytes: &mut Vec<u8>, room: usize, src: &mut S) -> Result<usize, NextFault>
+    requires some { 1 ≤ room }
+    requires fits { length bytes.old.items + room ≤ most_bytes + 1 }
     ensures { TakeIntoMeans result bytes.old.items bytes.new.items room (S.state src.old) (S.state src.new) }
 {
-    taking_law();
-    count_law();
-    let mut buffer = [0; CHUNK];
-    let mut left = room;
-    while left > 0 {
-        let part = left.min(CHUNK);
-        match src.take(&mut buffer[..part]) {
-            Took::Bytes(count) => {
-                if bytes.extend_from_slice(&buffer[..count]).is_err() {
-                    return Err(NextFault::NoMemory);
-                }
-                left -= count;
-            }
-            Took::End => return Ok(true),
-            Took::Failed => return Err(NextFault::Read),
+    let held = bytes.len();
+    clear_behind(bytes, room)?;
+    match src.take(&mut bytes[held..]) {
+        Took::Bytes(count) => {
+            bytes.truncate(held + count);
+            Ok(count)
+        }
+        Took::End => {
+            bytes.truncate(held);
+            Ok(0)
+        }
+        Took::Failed => {
+            bytes.truncate(held);
+            Err(NextFault::Read)
         }
     }
-    Ok(false)
+}
+
+/// Appends so many zeros.
+fn clear_behind(bytes: &mut Vec<u8>, count: usize) -> Result<(), NoMemory>
+    requires { length bytes.old.items + count < 2 ^ 63 }
+    ensures { MatchResult result (λ _. bytes.new.items ≡ bytes.old.items ++ replicate count 0) (λ _. bytes.new.items ≡ bytes.old.items) }
+{
+    bytes.resize(bytes.len() + count, 0)?;
+    Ok(())
+}
+
+/// The most bytes of the next take: twice as many as the last one gave, so that few are cleared for a
+/// source that gives few.
+fn next_take(count: usize) -> usize
+    ensures least { 1 ≤ result }
+    ensures most { result ≤ CHUNK }
+{
+    count.min(CHUNK / 2).max(LEAST_TAKE / 2) * 2
+}
+
+/// Takes the first bytes away, as many as told.
+fn drop_front(bytes: &mut Vec<u8>, count: usize)
+    requires { count ≤ length bytes.old.items }
+    ensures { bytes.new.items ≡ drop count bytes.old.items }
+{
+    if count > 0 {
+        let rest = bytes.len() - count;
+        bytes.copy_within(count.., 0);
+        bytes.truncate(rest);
+    }
 }
 
 /// The first bytes, as many as told.

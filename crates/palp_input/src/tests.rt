@@ -13,7 +13,7 @@ const MANY: usize = 20;
 
 /// How many items a text has, and the fault that ends it, where its source fails in the call of
 /// this number; 0 is the number of none.
-fn read_all(
+pub fn read_all(
     alloc: Global,
     text: &[u8],
     chunk: usize,
@@ -36,7 +36,7 @@ fn read_all(
     Ok((MANY, None))
 }
 
-fn text_fault(kind: TextKind, line: u64, column: u64) -> Option<NextFault> {
+pub fn text_fault(kind: TextKind, line: u64, column: u64) -> Option<NextFault> {
     Some(NextFault::Text(TextFault { kind, line, column }))
 }
 
@@ -280,18 +280,74 @@ fn reads_each_beginning_of_three_items(rt: HostRuntime) -> Result<(), Fail> {
     Ok(())
 }
 
+/// The bytes of a take, the first and the last of some calls, and how many items have their line end in
+/// the bytes of the takes before each of them.
+const FAILING_CALLS: [(usize, u64, u64, usize); 11] = [
+    (1, 1, 8, 0),
+    (1, 9, 16, 1),
+    (1, 17, 22, 2),
+    (2, 1, 4, 0),
+    (2, 5, 8, 1),
+    (2, 9, 12, 2),
+    (7, 1, 2, 0),
+    (7, 3, 3, 1),
+    (7, 4, 4, 2),
+    (4_096, 1, 1, 0),
+    (4_096, 2, 2, 2),
+];
+
 #[test]
 fn tells_a_failing_source(rt: HostRuntime) -> Result<(), Fail> {
-    for (chunk, calls) in [(1, 22), (2, 12), (7, 4), (4_096, 2)] {
-        for call in 1..calls {
+    for (chunk, first, last, count) in FAILING_CALLS {
+        for call in first..=last {
             let read = read_all(rt.alloc(), THREE_ITEMS, chunk, call)?;
-            assert_eq!(rt; read, (0, Some(NextFault::Read)), "call {call}");
+            assert_eq!(rt; read, (count, Some(NextFault::Read)), "call {call}");
         }
-        assert_eq!(rt;
-            read_all(rt.alloc(), THREE_ITEMS, chunk, calls)?,
-            (0, Some(NextFault::Read))
-        );
         assert_eq!(rt; read_all(rt.alloc(), b"3 1 1 1\n", chunk, 11)?, (1, None));
+    }
+    Ok(())
+}
+
+#[test]
+fn tells_a_fault_before_it_takes_on(rt: HostRuntime) -> Result<(), Fail> {
+    let cases = [
+        ("x 1\n3 1 1 1\n", 4, 2, text_fault(BadNumber, 1, 1)),
+        ("7\n3 1 1 1\n", 3, 2, text_fault(NoWeights, 1, 1)),
+        ("7\n3 1 1 1\n", 2, 2, Some(NextFault::Read)),
+        ("1 2\n4 x\n", 8, 2, text_fault(BadNumber, 2, 3)),
+        ("1 3\n4\n5\nx y\n", 4, 4, text_fault(BadNumber, 4, 1)),
+        ("1 3\n4\n5\nx y\n", 4, 3, Some(NextFault::Read)),
+    ];
+    for (text, chunk, failing, fault) in cases {
+        let read = read_all(rt.alloc(), text.as_bytes(), chunk, failing)?;
+        assert_eq!(rt; read, (0, fault), "{text}");
+    }
+    Ok(())
+}
+
+#[test]
+fn reads_a_matrix_across_takes(rt: HostRuntime) -> Result<(), Fail> {
+    let alloc = rt.alloc();
+    let text = "3 2\n10 -20\n\n 7\n 100 5 6 7\n2 1 1";
+    for chunk in [1, 2, 3, 7, 4_096] {
+        let bytes = Vec::from_slice(alloc, text.as_bytes())?;
+        let mut source = MemSource::new(bytes, chunk, Vec::new(alloc));
+        let mut reader = Reader::new(alloc);
+        let matrix = Item::Points(Matrix {
+            lines: 3,
+            columns: 2,
+            entries: vec![in alloc; 10, -20, 7, 100, 5, 6]?,
+        });
+        assert_eq!(rt; reader.next_item(&mut source), Ok(Some(matrix)));
+        let system = WeightSystem {
+            degree: 2,
+            weights: vec![in alloc; 1, 1]?,
+        };
+        let weights = Item::Weights(vec![in alloc; system]?);
+        assert!(rt; reader.is_live());
+        assert_eq!(rt; reader.next_item(&mut source), Ok(Some(weights)));
+        assert!(rt; reader.is_live());
+        assert_eq!(rt; reader.next_item(&mut source), Ok(None));
     }
     Ok(())
 }
@@ -338,147 +394,5 @@ fn is_not_live_after_a_fault(rt: HostRuntime) -> Result<(), Fail> {
         }))
     );
     assert!(rt; !reader.is_live());
-    Ok(())
-}
-
-/// The front, then a byte so many times, then the back.
-fn filled(
-    alloc: Global,
-    front: &[u8],
-    byte: u8,
-    count: usize,
-    back: &[u8],
-) -> Result<Vec<u8>, Fail> {
-    let mut bytes = Vec::from_slice(alloc, front)?;
-    for _ in 0..count {
-        bytes.push(byte)?;
-    }
-    bytes.extend_from_slice(back)?;
-    Ok(bytes)
-}
-
-#[test]
-fn reads_long_numbers(rt: HostRuntime) -> Result<(), Fail> {
-    let alloc = rt.alloc();
-    let long = filled(alloc, b"1", b'0', 9_999_999, b" 1")?;
-    assert_eq!(rt;
-        read_all(alloc, &long, 4_096, 0)?,
-        (0, text_fault(NumberRange, 1, 1))
-    );
-    let zeros = filled(alloc, b"2 ", b'0', 9_999_999, b"1 1")?;
-    assert_eq!(rt; read_all(alloc, &zeros, 4_096, 0)?, (1, None));
-    let blanks = filled(alloc, b"2 1", b' ', 10_000_000, b"1 x")?;
-    assert_eq!(rt; read_all(alloc, &blanks, 4_096, 0)?, (1, None));
-    Ok(())
-}
-
-#[test]
-fn reads_headers_of_large_numbers(rt: HostRuntime) -> Result<(), Fail> {
-    let texts = [
-        "100000000000000000 1\n5",
-        "999999999999999999 999999999999999999\n5",
-        "4294967296 4294967296\n5\n",
-    ];
-    for text in texts {
-        assert_eq!(rt;
-            read_all(rt.alloc(), text.as_bytes(), 7, 0)?,
-            (0, text_fault(MatrixShort, 1, 1))
-        );
-    }
-    Ok(())
-}
-
-#[test]
-fn reads_a_matrix_of_many_entries(rt: HostRuntime) -> Result<(), Fail> {
-    let mut text = Vec::from_slice(rt.alloc(), b"1 30000000\n")?;
-    for _ in 0..30_000_000 {
-        text.extend_from_slice(b"0 ")?;
-    }
-    assert_eq!(rt; read_all(rt.alloc(), &text, 4_096, 0)?, (1, None));
-    Ok(())
-}
-
-#[test]
-fn ignores_a_long_text(rt: HostRuntime) -> Result<(), Fail> {
-    let text = filled(rt.alloc(), b"2 1 1 x", b'y', 60_000_000, b"")?;
-    assert_eq!(rt; read_all(rt.alloc(), &text, 4_096, 0)?, (1, None));
-    Ok(())
-}
-
-#[test]
-fn reads_long_lines(rt: HostRuntime) -> Result<(), Fail> {
-    let alloc = rt.alloc();
-    let mut line = Vec::from_slice(alloc, b"200000")?;
-    for _ in 0..200_000 {
-        line.extend_from_slice(b" 1")?;
-    }
-    assert_eq!(rt; read_all(alloc, &line, 4_096, 0)?, (1, None));
-    line.extend_from_slice(b" 1")?;
-    let place = 6 + 2 * 200_000 + 2;
-    assert_eq!(rt;
-        read_all(alloc, &line, 4_096, 0)?,
-        (0, text_fault(TextKind::WeightSum, 1, place))
-    );
-    Ok(())
-}
-
-/// The most bytes of a text.
-const MOST: usize = 67_108_864;
-
-/// What is told of a text of blanks whose last bytes, up to the most that it may have, are `last`,
-/// and whose further bytes are `behind`.
-fn read_full(
-    alloc: Global,
-    last: &[u8],
-    behind: &[u8],
-) -> Result<(usize, Option<NextFault>), Fail> {
-    let mut text = vec![in alloc; b' '; MOST - last.len().min(8)]?;
-    text.extend_from_slice(last)?;
-    text.extend_from_slice(behind)?;
-    read_all(alloc, &text, 4_096, 0)
-}
-
-/// What stands last, what stands behind, how many items are given, and the fault.
-type FullCase = (&'static str, &'static str, usize, Option<NextFault>);
-
-fn full_texts() -> [FullCase; 10] {
-    let too_long = Some(NextFault::TooLong);
-    [
-        ("2 1 1", "", 1, None),
-        ("2 1 1\n", "", 1, None),
-        ("2 1 1", " ", 0, too_long),
-        ("2 1 1\n", " ", 1, too_long),
-        ("2 1 1\n", "2 1 1\n", 1, too_long),
-        ("", "", 0, None),
-        ("", "\n", 0, too_long),
-        ("7", " ", 0, too_long),
-        ("1 1\n5", " ", 0, too_long),
-        ("1 1\n", " ", 0, too_long),
-    ]
-}
-
-fn full_texts_with_faults() -> [FullCase; 7] {
-    let last = 67_108_864;
-    [
-        ("x", " ", 0, text_fault(BadNumber, 1, last)),
-        ("x", "y", 0, Some(NextFault::TooLong)),
-        ("x", "", 0, text_fault(BadNumber, 1, last)),
-        ("\x01", "y", 0, text_fault(BadByte, 1, last)),
-        ("3 1 /Z", "5", 0, text_fault(Quotient, 1, last - 1)),
-        ("7\n", " ", 0, text_fault(NoWeights, 1, last - 1)),
-        ("1 1\n", "", 0, text_fault(MatrixShort, 1, last - 3)),
-    ]
-}
-
-#[test]
-fn reads_as_many_bytes_as_a_text_may_have(rt: HostRuntime) -> Result<(), Fail> {
-    for (last, behind, count, fault) in full_texts() {
-        let read = read_full(rt.alloc(), last.as_bytes(), behind.as_bytes())?;
-        assert_eq!(rt; read, (count, fault), "{last}");
-    }
-    for (last, behind, count, fault) in full_texts_with_faults() {
-        let read = read_full(rt.alloc(), last.as_bytes(), behind.as_bytes())?;
-        assert_eq!(rt; read, (count, fault), "{last}");
-    }
     Ok(())
 }

@@ -2,7 +2,8 @@ use Rattle.std.proofs.Common.{◌≡◌, ℕ, ◌-◌, ℤ, [], ◌∷◌, ◌++
 use Rattle.std.proofs.lemmas.Int.{to_z-of_z}
 use Rattle.palp_input.specs.Pieces.{pieces_of}
 use Rattle.palp_input.specs.Lines.{matrix_read}
-use Rattle.palp_input.proofs.ReadSoFar.{matrix_behind, entries_more, at_least_one, matrix_behind-end, matrix_behind-fault, matrix_behind-missing}
+use Rattle.palp_input.specs.LineSteps.{matrix_behind}
+use Rattle.palp_input.proofs.ReadSoFar.{entries_more, at_least_one, matrix_behind-end, matrix_behind-fault, matrix_behind-missing}
 use Rattle.palp_input.proofs.matrices.read_entries.Goals as goal
 
 pub loop-left-preserved : goal.loop-left-preserved

@@ -1,7 +1,7 @@
 use Rattle.std.proofs.Common.{◌≡◌, ◌≤◌, length, drop}
 use Rattle.palp_input.specs.Pieces.{pieces_of}
 use Rattle.palp_input.specs.Lines.{matrix_read}
-use Rattle.palp_input.proofs.ReadSoFar.{matrix_behind}
+use Rattle.palp_input.specs.LineSteps.{matrix_behind}
 use Rattle.palp_input.proofs.matrices.read_entries.Given as goal
 
 abbrev pub invariant-loop-left : goal.invariant-loop-left
