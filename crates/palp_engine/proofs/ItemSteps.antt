@@ -11,39 +11,42 @@ use Rattle.report_theory.proofs.Givings.{item_nothing, item_piece, item_closed, 
 use Rattle.palp_words.specs.declared.job.Job.{Job}
 use Rattle.palp_input.specs.Grammar.{Listed}
 use Rattle.palp_engine.specs.Items.{IsPiece, IsItemRefused}
-use Rattle.palp_engine.specs.Entries.{TextItem}
+use Rattle.palp_engine.specs.Entries.{Entry, TextItem}
 use Rattle.palp_engine.specs.Commands.{IsBuilt, PlainSays, line, whole, refused, Says}
 use Rattle.palp_engine.specs.Sessions.{EntryMeans}
 use Rattle.palp_engine.specs.RunSteps.{IsItemStop}
 use Rattle.palp_engine.specs.declared.session.ItemFault.{ItemFault}
 
 -- the job that is built says what `poly -n` says
-built_says : (job : Job) (item : Listed) (k : ℕ) (step : Step Refusal) → IsBuilt job → PlainSays item k step → Says job (TextItem item) k step
+built_says : (job : Job) (item : Listed) (k : ℕ) (step : Step Refusal) → IsBuilt job → PlainSays item k step
+    → Says job (TextItem item) k step
 built_says job item k step built a = subst (λ (j : Job). Says j (TextItem item) k step) (sym built) (refl, a)
 
 module _ (job : Job) (built : IsBuilt job) (item : Listed) (out : SinkState) where
-  pub refused_item : (cause : Refusal) → IsItemRefused item cause → GivesItem (Says job) (TextItem item) (Ends cause) out out
-  refused_item cause a =
-      item_closed (Says job) out out (TextItem item) 0 (item_nothing (Says job) out (TextItem item)) (Ends cause) (built_says job item 0 _ built (refused a))
+  abbrev entry : Entry
+  entry = TextItem item
 
-  pub no_piece : GivesFront (Says job) (TextItem item ∷ []) out out
-  no_piece = item_front (Says job) out out (TextItem item) 0 (item_nothing (Says job) out (TextItem item))
+  pub refused_item : (cause : Refusal) → IsItemRefused item cause → GivesItem (Says job) entry (Ends cause) out out
+  refused_item cause a = item_closed (Says job) out out entry 0 (item_nothing (Says job) out entry) (Ends cause)
+      (built_says job item 0 _ built (refused a))
+
+  pub no_piece : GivesFront (Says job) (entry ∷ []) out out
+  no_piece = item_front (Says job) out out entry 0 (item_nothing (Says job) out entry)
 
   -- an item that stops
   pub stopped_item : (fault : Fault) (told : ItemFault) → Stops (IsItemRefused item) fault → IsItemStop fault told
-      → EntryMeans (Err told) job (TextItem item) out out
-  stopped_item (faults.Refused cause) told s e = subst (λ (t : ItemFault). EntryMeans (Err t) job (TextItem item) out out) (sym e)
-      (refused_item cause s)
-  stopped_item faults.NoMemory told s e = subst (λ (t : ItemFault). EntryMeans (Err t) job (TextItem item) out out) (sym e) no_piece
+      → EntryMeans (Err told) job entry out out
+  stopped_item (faults.Refused cause) told s e =
+      subst (λ (t : ItemFault). EntryMeans (Err t) job entry out out) (sym e) (refused_item cause s)
+  stopped_item faults.NoMemory told s e = subst (λ (t : ItemFault). EntryMeans (Err t) job entry out out) (sym e) no_piece
 
   module _ (piece : List ℕ) (is_piece : IsPiece item piece) (last : SinkState) (later : out.faults ≤ last.faults) where
-    pub whole_item : Gains out last piece → GivesItem (Says job) (TextItem item) Whole out last
-    whole_item g = item_closed (Says job) out last (TextItem item) 1
-        (item_piece (Says job) out out (TextItem item) 0 (item_nothing (Says job) out (TextItem item)) piece last (built_says job item 0 _ built (line is_piece))
+    pub whole_item : Gains out last piece → GivesItem (Says job) entry Whole out last
+    whole_item g = item_closed (Says job) out last entry 1
+        (item_piece (Says job) out out entry 0 (item_nothing (Says job) out entry) piece last (built_says job item 0 _ built (line is_piece))
         g later)
         Whole (built_says job item 1 _ built whole)
 
-    pub part_of_item : GainsFront out last piece → GivesFront (Says job) (TextItem item ∷ []) out last
-    part_of_item g =
-        item_part (Says job) out out (TextItem item) 0 (item_nothing (Says job) out (TextItem item)) piece last (built_says job item 0 _ built (line is_piece)) g
-        later
+    pub part_of_item : GainsFront out last piece → GivesFront (Says job) (entry ∷ []) out last
+    part_of_item g = item_part (Says job) out out entry 0 (item_nothing (Says job) out entry) piece last
+        (built_says job item 0 _ built (line is_piece)) g later

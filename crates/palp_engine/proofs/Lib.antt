@@ -3,7 +3,9 @@ pub mod SingleAnswers
 pub mod HullStops
 pub mod SingleItems
 pub mod SingleReports
+pub mod SingleEnded
 pub mod TextReadings
+pub mod EndedItems
 pub mod ItemSteps
 pub mod ReportSteps
 pub mod RunMeanings

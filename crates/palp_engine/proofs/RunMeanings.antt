@@ -1,142 +1,19 @@
 -- What the answers of the steps mean for the whole run.
-use Rattle.std.proofs.Common.{◌≡◌, ℕ, ◌+◌, ◌≤◌, inl, inr, List, [], map, Option, Some, None, Ok, Err, refl, sym, ap, subst, ◌∙◌, arith}
-use Rattle.std.proofs.lemmas.Simd.{map-map}
-use Rattle.lattice_core.specs.declared.faults.Refusal.{Refusal}
+use Rattle.std.proofs.Common.{◌≡◌, ℕ, ◌+◌, ◌≤◌, inl, inr, List, [], Ok, Err, refl, sym, subst, ◌∙◌, arith}
 use Rattle.palp_io.specs.Source.{SourceState}
 use Rattle.palp_io.specs.Sink.{SinkState}
 use Rattle.palp_io.proofs.SourceLemmas.{Passes-none}
-use Rattle.report_theory.specs.Report.{Stop, IsListReport, IsListFront}
-use Rattle.report_theory.specs.Giving.{GivesFront}
-use Rattle.report_theory.proofs.Givings.{gives_nothing}
 use Rattle.palp_words.specs.Words.{words_of}
 use Rattle.palp_words.specs.declared.fault.WordFault.{WordFault}
 use Rattle.palp_words.specs.declared.job.Job.{Job}
-use Rattle.palp_input.specs.Grammar.{most_bytes, listed, TextEnd, End, FaultEnd, TooLongEnd}
-use Rattle.palp_engine.specs.Entries.{Entry, TextItem, item_entry, AreTextEntries, AreEntries}
-use Rattle.palp_engine.specs.Commands.{IsBuilt, AreBuilt, AreUnbuilt, Says}
-use Rattle.palp_engine.specs.Texts.{outcome_with, HaveReport, of_entries, of_unbuilt, of_bad_words, no_front, front_of_entries}
+use Rattle.palp_input.specs.Grammar.{most_bytes}
+use Rattle.palp_engine.specs.Commands.{IsBuilt, AreBuilt, AreUnbuilt}
+use Rattle.palp_engine.specs.Texts.{HaveReport, of_unbuilt, of_bad_words}
 use Rattle.palp_engine.specs.Runs.{HasTaken, IsText, AreUntouched, IsReported, IsReportedInPart, IsDone, IsRefusal, HasReadFault, HasWriteFault, HasEnding, TellsBadWords, TellsNotBuilt, IsComplete}
-use Rattle.palp_engine.specs.RunSteps.{GivesWhole, ReportMeans, PerformedMeans, IsPerformed, OutcomeMeans, IsAnswered}
-use Rattle.palp_engine.specs.ReadingSteps.{Reads, text_end}
-use Rattle.palp_engine.specs.declared.reading.Reading.{Reading}
-use Rattle.palp_engine.specs.declared.reading.ReadingFault.TheVariants as reading_faults
-use Rattle.palp_engine.specs.declared.reading.Ending.{Ending}
-use Rattle.palp_engine.specs.declared.reading.Ending.TheVariants as endings
+use Rattle.palp_engine.specs.RunSteps.{PerformedMeans, IsPerformed, OutcomeMeans, IsAnswered}
 use Rattle.palp_engine.specs.declared.outcome.Outcome.{Outcome}
 use Rattle.palp_engine.specs.declared.outcome.Outcome.TheVariants.{Done, BadWords, BadText, Refused, TextLimit, NotBuilt, ReadFault, WriteFault, NoMemory}
 use Rattle.palp_engine.proofs.SingleReports.{job_or_fault, built_or_unbuilt}
-
--- only a text that ends at its end has the outcome that all was reported
-end_alone : (stop : Option (Stop Refusal)) (ending : TextEnd) → Done ≡ outcome_with stop ending → ending ≡ End
-end_alone None End e = refl
-end_alone None (FaultEnd fault) e = cc
-end_alone None TooLongEnd e = cc
-end_alone (Some stop) ending e = cc
-
-end_is : (ending : Ending) → text_end ending ≡ End → ending ≡ endings.End
-end_is endings.End e = refl
-end_is (endings.Fault fault) e = cc
-end_is endings.TooLong e = cc
-
--- the entries of a job that is built are the items of the text
-built_entries : (job : Job) (text : List ℕ) (entries : List Entry) (ending : TextEnd) → IsBuilt job → AreTextEntries text entries ending
-    → AreEntries job text entries ending
-built_entries job text entries ending built e = subst (λ (j : Job). AreEntries j text entries ending) (sym built) e
-
--- the report of the items that were read is that of the words and the text
-module _ (job : Job) (source source_now : SourceState) (read : Reading) (reads : Reads (Ok read) source source_now)
-    (out out_now : SinkState)
-    (words : List (List ℕ)) (built : AreBuilt words) (same : built.job ≡ job) where
-  abbrev items : List Entry
-  items = map item_entry read.items.items
-
-  are_entries : AreEntries built.job reads.text items (text_end read.ending)
-  are_entries = built_entries built.job reads.text items (text_end read.ending) built.built (record {
-    entries_are = sym (ap (map TextItem) reads.means.items_are ∙ map-map TextItem listed read.items.items);
-    ending_is = sym reads.means.ending_is;
-  })
-
-  have_report : (report : List (List ℕ)) (stop : Option (Stop Refusal)) (outcome : Outcome) → IsListReport (Says job) 1 0 items report stop
-      → outcome ≡ outcome_with stop (text_end read.ending) → HaveReport words reads.text report outcome
-  have_report report stop outcome r o = subst (λ (x : Outcome). HaveReport words reads.text report x) (sym o)
-      (of_entries built (text_end read.ending) are_entries (subst (λ (j : Job). IsListReport (Says j) 1 0 items report stop) (sym same) r))
-
-  reported : (outcome : Outcome) → GivesWhole job items (text_end read.ending) out out_now outcome
-      → IsReported words source source_now out out_now outcome
-  reported outcome g =
-      let have = have_report g.gives.report g.stop outcome g.gives.is_report g.outcome_is in
-      record {
-        text = reads.text;
-        is_text = reads.is_text;
-        report = g.gives.report;
-        is_report = (outcome, have);
-        ends = (g.gives.report, have);
-        gives = g.gives.gives;
-      }
-
-  in_part : GivesFront (Says job) items out out_now → IsReportedInPart words source source_now out out_now
-  in_part g = record {
-    text = reads.text;
-    is_text = reads.is_text;
-    front = g.front;
-    is_front = front_of_entries built (text_end read.ending) are_entries (subst (λ (j : Job). IsListFront (Says j) 0 items g.front) (sym same) g.is_front);
-    gives = g.gives;
-  }
-
-  report_means : (outcome : Outcome) → ReportMeans job items (text_end read.ending) out out_now outcome
-      → PerformedMeans words source source_now out out_now outcome
-  report_means Done m =
-      record {
-        reported = reported Done m;
-        has_ended = λ given gives text. reads.means.whole
-            (end_is read.ending (end_alone m.stop (text_end read.ending) m.outcome_is));
-      }
-  report_means (BadText fault) m = reported (BadText fault) m
-  report_means (Refused item cause) m = reported (Refused item cause) m
-  report_means TextLimit m = reported TextLimit m
-  report_means WriteFault m = record { rose = m.0; in_part = in_part m.1 }
-  report_means NoMemory m = in_part m
-  report_means ReadFault m = absurd m
-  report_means (BadWords fault) m = absurd m
-  report_means NotBuilt m = absurd m
-
-pub report_performs : (job : Job) (source source_now : SourceState) (out out_now : SinkState) (read : Reading) (outcome : Outcome)
-    → Reads (Ok read) source source_now → ReportMeans job (map item_entry read.items.items) (text_end read.ending) out out_now outcome
-    → IsPerformed job source source_now out out_now outcome
-report_performs job source source_now out out_now read outcome r m = record {
-  taken = (r.is_text.bytes, r.is_text.have_passed);
-  means = λ words built same. report_means job source source_now read r out out_now words built same outcome m;
-}
-
--- nothing was given
-nothing_in_part : (words : List (List ℕ)) (source source_now : SourceState) (out : SinkState) (text : List ℕ)
-    → IsText source source_now text
-    → IsReportedInPart words source source_now out out
-nothing_in_part words source source_now out text t =
-    record { text = text; is_text = t; front = []; is_front = no_front; gives = gives_nothing out }
-
-pub nothing_performed : (job : Job) (source source_now : SourceState) (out : SinkState)
-    → Reads (Err reading_faults.NoMemory) source source_now
-    → IsPerformed job source source_now out out NoMemory
-nothing_performed job source source_now out r = record {
-  taken = (r.is_text.bytes, r.is_text.have_passed);
-  means = λ words built same. nothing_in_part words source source_now out r.text r.is_text;
-}
-
-pub read_fault_performed : (job : Job) (source source_now : SourceState) (out : SinkState)
-    → Reads (Err reading_faults.Source) source source_now
-    → IsPerformed job source source_now out out ReadFault
-read_fault_performed job source source_now out r = record {
-  taken = (r.is_text.bytes, r.is_text.have_passed);
-  means = λ words built same. record {
-    rose = r.means;
-    bytes = r.is_text.bytes;
-    have_passed = r.is_text.have_passed;
-    front = [];
-    is_front = no_front;
-    gives = gives_nothing out;
-  };
-}
 
 -- the job's outcome is the run's
 performed_means : (words : List (List ℕ)) (source source_now : SourceState) (out out_now : SinkState) (outcome : Outcome) → AreBuilt words

@@ -27,7 +27,7 @@ says_one_plain item _ _ _ (refused {cause = c} a) (refused {cause = d} b) =
     ap (λ (x : Refusal). Close (Ends x)) (one_item_refusal item c d a b)
 says_one_plain item _ _ _ whole whole = refl
 
-says_one : (job : Job) → SaysOne (Says job)
+pub says_one : (job : Job) → SaysOne (Says job)
 says_one (Poly flags) (TextItem item) k step other a b = says_one_plain item k step other a.1 b.1
 says_one (Poly flags) (ListSystem system) k step other a b = absurd a
 says_one (Poly flags) (ListEnd systems) k step other a b = absurd a

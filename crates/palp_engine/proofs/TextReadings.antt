@@ -1,146 +1,158 @@
 -- Reading the items of a source one after another.
-use Rattle.std.proofs.Common.{◌≡◌, ℕ, ◌+◌, ◌-◌, ◌≤◌, List, [], ◌∷◌, ◌++◌, map, length, drop, take, true, false, Option, Some, None, Result, Ok, Err, refl, sym, ap, subst, ◌∙◌, arith, append_assoc, length-append, length-drop}
-use Rattle.std.specs.Prelude.{IfSome}
+use Rattle.std.proofs.Common.{◌≡◌, ◌≢◌, ◌⊎◌, inl, inr, ℕ, zero, suc, ◌+◌, ◌-◌, ◌<◌, ◌≤◌, Bool, true, false, List, [], ◌∷◌, ◌++◌, length, drop, take, get_or, Option, Some, None, Result, Ok, refl, sym, ap, subst, ◌∙◌, arith, append_assoc, length-append}
+use Rattle.std.specs.Prelude.{slice_index}
 use Rattle.std.specs.List.{All}
-use Rattle.std.proofs.lemmas.List.{append-nil, map-append}
-use Rattle.std.proofs.lemmas.List.Elements.{All-nil, All-push}
-use Rattle.palp_io.specs.Source.{SourceState, HasEnded, Passes}
-use Rattle.palp_io.specs.Faults.{Rose}
-use Rattle.palp_io.proofs.SourceLemmas.{Passes-none, Passes-trans}
-use Rattle.palp_io.proofs.FaultLemmas.{Rose-late}
-use Rattle.palp_input.specs.Grammar.{listed, TextEnd, TextRead, read_text, no_more, with_item, line_feeds, most_bytes}
+use Rattle.std.specs.Io.KnownBytes.{IsAtEnd}
+use Rattle.std.proofs.lemmas.Bool.{cases_eq}
+use Rattle.std.proofs.lemmas.List.{take-append-drop, length-take-le, get_or-take, get_or-append-add}
+use Rattle.std.proofs.lemmas.List.Elements.{All-nil, All-push, All-weaker}
+use Rattle.palp_io.specs.Source.{SourceState, Passes}
+use Rattle.palp_io.proofs.SourceLemmas.{Passes-none, Passes-trans, Passes-told}
+use Rattle.palp_input.specs.Pieces.{line_feed}
+use Rattle.palp_input.specs.Grammar.{Listed, listed, TextEnd, TextRead, read_text, no_more, with_item, most_bytes}
 use Rattle.palp_input.specs.Reading.{ReaderState, IsHanded, NextMeans, GivesItem}
-use Rattle.palp_input.specs.Items.{IsItem}
-use Rattle.palp_input.specs.Answers.{reading_of, ReadsItem}
+use Rattle.palp_input.specs.Answers.{reading_of}
 use Rattle.palp_input.specs.declared.fault.NextFault.{NextFault}
-use Rattle.palp_input.specs.declared.fault.NextFault.TheVariants.{Text, TooLong, Read, NoMemory}
 use Rattle.palp_input.specs.declared.item.Item.{Item}
-use Rattle.palp_input.proofs.Readings.{calls_read, calls_read_taken}
-use Rattle.palp_input.proofs.ItemForms.{items_are_items}
-use Rattle.palp_engine.specs.Runs.{HavePassed, text_of, IsText}
-use Rattle.palp_engine.specs.ReadingSteps.{IsReading, Reads, text_end}
-use Rattle.palp_engine.specs.declared.reading.Reading.{Reading}
-use Rattle.palp_engine.specs.declared.reading.ReadingFault.TheVariants as reading_faults
-use Rattle.palp_engine.specs.declared.reading.Ending.{Ending}
-use Rattle.palp_engine.specs.declared.reading.Ending.TheVariants as endings
+use Rattle.palp_input.proofs.Readings.{calls_read_taken}
+use Rattle.palp_engine.specs.Runs.{HavePassed, text_of}
+use Rattle.palp_engine.specs.Ended.{HasLineEnd}
 
--- the text's items are those read so far and those behind them
-pub record ReadsOn (text : List ℕ) (left_now : Option (List ℕ)) (reader : ReaderState) (items : List Item) : Type 0 where
-  pub more : List ℕ
-  pub told : left_now ≡ Some more
-  pub items_are : (read_text text).items ≡ map listed items ++ (reading_of reader more).items
-  pub ending_is : (read_text text).ending ≡ (reading_of reader more).ending
+-- a reading behind these items, with their ends
+abbrev pub with_items : List Listed → List ℕ → TextRead → TextRead
+with_items items ends more = record { items = items ++ more.items; ends = ends ++ more.ends; ending = more.ending }
 
--- the items of a text and of some more of it behind the bytes taken are those read so far and those behind them
-pub record Continues (text more : List ℕ) (reader : ReaderState) (items : List Item) : Type 0 where
-  pub items_are : (read_text text).items ≡ map listed items ++ (reading_of reader more).items
-  pub ending_is : (read_text text).ending ≡ (reading_of reader more).ending
-
--- a reader that read some items: whatever comes behind the bytes that were taken, and nothing does once the source has ended
-pub record ReadSoFar (source source_now : SourceState) (reader : ReaderState) (items : List Item) : Type 0 where
-  pub bytes : List ℕ
-  pub passes : Passes source source_now bytes
-  pub count : reader.bytes + length reader.held ≡ length bytes
+-- A reader that read some items. Whatever comes behind the bytes that were taken, and nothing does once the source has ended: the reading of
+-- the text is these items and the reading of what is held and comes behind. While the source hasn't ended each of them ends with a line end.
+pub record ReadSoFar (source source_now : SourceState) (reader : ReaderState) (items : List Listed) : Type 0 where
+  pub passed : List ℕ
+  pub passes : Passes source source_now (passed ++ reader.held)
+  pub count : length passed ≡ reader.bytes
   pub most : reader.bytes ≤ most_bytes
+  pub bound : length (passed ++ reader.held) ≤ most_bytes + 1
+  pub few : length items ≤ reader.bytes
   pub live : reader.live ≡ true
   pub later : source.faults ≤ source_now.faults
   pub handed : IsHanded reader source_now
-  pub taken : (more : List ℕ) → (reader.ended ≡ true → more ≡ []) → Continues (bytes ++ more) more reader items
-  pub reads : IfSome source.left (λ text. ReadsOn text source_now.left reader items)
-  pub are_items : All (λ item. IsItem (listed item)) items
+  pub ends : List ℕ
+  pub as_many : length ends ≡ length items
+  pub taken : (more : List ℕ) → (reader.ended ≡ true → more ≡ [])
+      → read_text ((passed ++ reader.held) ++ more) ≡ with_items items ends (reading_of reader more)
+  pub ended : reader.ended ≡ false → All (HasLineEnd passed) ends
 
 at_least : (n : ℕ) → n ≤ n
 at_least n = omega arith
+
+none_within : 0 ≤ most_bytes + 1
+none_within = omega arith
+
+none_most : 0 ≤ most_bytes
+none_most = omega arith
 
 -- no call
 abbrev fresh : ReaderState
 fresh = record { bytes = 0; lines = 0; held = []; live = true; ended = false }
 
-reads_all : (left : Option (List ℕ)) → IfSome left (λ text. ReadsOn text left fresh [])
-reads_all None = tt
-reads_all (Some text) = record { more = text; told = refl; items_are = refl; ending_is = refl }
+pub read_nothing : (source : SourceState) (reader : ReaderState)
+    → reader ≡ record { bytes = 0; lines = 0; held = []; live = true; ended = false } → ReadSoFar source source reader []
+read_nothing source reader r = subst (λ (s : ReaderState). ReadSoFar source source s []) (sym r) (record {
+  passed = [];
+  passes = Passes-none source;
+  count = refl;
+  most = none_most;
+  bound = none_within;
+  few = at_least 0;
+  live = refl;
+  later = at_least source.faults;
+  handed = λ e. absurd (cc);
+  ends = [];
+  as_many = refl;
+  taken = λ more none. refl;
+  ended = λ e. All-nil (HasLineEnd []);
+})
 
-pub read_nothing : (source : SourceState) (reader : ReaderState) (items : List Item)
-    → reader ≡ record { bytes = 0; lines = 0; held = []; live = true; ended = false } → items ≡ [] → ReadSoFar source source reader items
-read_nothing source reader items r i = subst (λ (s : ReaderState). ReadSoFar source source s items) (sym r)
-    (subst (λ (xs : List Item). ReadSoFar source source fresh xs) (sym i) (record {
-      bytes = [];
-      passes = Passes-none source;
-      count = refl;
-      most = omega arith;
-      live = refl;
-      later = at_least source.faults;
-      handed = λ e. absurd (cc);
-      taken = λ more none. record { items_are = refl; ending_is = refl };
-      reads = reads_all source.left;
-      are_items = All-nil (λ (item : Item). IsItem (listed item));
-    }))
+-- line ends of a text that is longer
+line_end_more : (bytes more : List ℕ) (at : ℕ) → slice_index bytes at ≡ line_feed → slice_index (bytes ++ more) at ≡ line_feed
+line_end_more [] more at h = absurd (cc)
+line_end_more (byte ∷ bytes) more zero h = h
+line_end_more (byte ∷ bytes) more (suc at) h = line_end_more bytes more at h
 
--- the bytes passed and held are those that were taken
-more_count : (before held now left taken end all : ℕ) → before + held ≡ taken → end ≤ held + all → now ≡ before + end
-    → left ≡ held + all - end
-    → now + left ≡ taken + all
-more_count before held now left taken end all h le n l = omega arith
+pub has_line_end_more : (bytes more : List ℕ) (end : ℕ) → HasLineEnd bytes end → HasLineEnd (bytes ++ more) end
+has_line_end_more bytes more end h = line_end_more bytes more (end - 1) h
 
-count_more : (before now : ReaderState) (bytes so_far : List ℕ) (end : ℕ) → before.bytes + length before.held ≡ length so_far
-    → end ≤ length (before.held ++ bytes)
-    → now ≡ record {
-      bytes = before.bytes + end;
-      lines = before.lines + line_feeds (take end (before.held ++ bytes));
-      held = drop end (before.held ++ bytes);
-      live = true;
-      ended = now.ended;
-    }
-    → now.bytes + length now.held ≡ length (so_far ++ bytes)
-count_more before now bytes so_far end h le parts =
-    let both = length-append before.held bytes in
-    let less = ap (λ (s : ReaderState). length s.held) parts ∙ length-drop end (before.held ++ bytes) ∙ ap (λ (n : ℕ). n - end) both in
-    more_count before.bytes (length before.held) now.bytes (length now.held) (length so_far) end (length bytes) h
-    (subst (λ (n : ℕ). end ≤ n) both le)
-    (ap (λ (s : ReaderState). s.bytes) parts) less ∙ sym (length-append so_far bytes)
+-- reading on behind one more item
+abbrev reading_as : TextEnd → List Listed → List ℕ → TextRead
+reading_as ending items ends = record { items = items; ends = ends; ending = ending }
 
--- one more item
-listed_more : (items : List Item) (item : Item) (more : TextRead)
-    → map listed items ++ listed item ∷ more.items ≡ map listed (items ++ item ∷ []) ++ more.items
-listed_more items item more =
-    sym (append_assoc (map listed items) (listed item ∷ []) more.items)
-    ∙ ap (λ (xs : List _). xs ++ more.items) (sym (map-append listed items (item ∷ [])))
+with_more : (items : List Listed) (ends : List ℕ) (item : Listed) (end : ℕ) (more : TextRead)
+    → with_items items ends (with_item item end more) ≡ with_items (items ++ item ∷ []) (ends ++ end ∷ []) more
+with_more items ends item end more =
+    ap (λ (xs : List Listed). reading_as more.ending xs (ends ++ end ∷ more.ends)) (sym (append_assoc items (item ∷ []) more.items))
+    ∙ ap (λ (xs : List ℕ). reading_as more.ending ((items ++ item ∷ []) ++ more.items) xs) (sym (append_assoc ends (end ∷ []) more.ends))
 
-reads_more : (text : List ℕ) (left left_now : Option (List ℕ)) (reader now : ReaderState) (items : List Item) (item : Item) (more : List ℕ)
-    → (read_text text).items ≡ map listed items ++ (reading_of reader more).items
-    → (read_text text).ending ≡ (reading_of reader more).ending
-    → ReadsItem reader now more left_now item → ReadsOn text left_now now (items ++ item ∷ [])
-reads_more text left left_now reader now items item more i e r = record {
-  more = r.more;
-  told = r.told;
-  items_are = i ∙ ap (λ (t : TextRead). map listed items ++ t.items) r.reads ∙ listed_more items item (reading_of now r.more);
-  ending_is = e ∙ ap (λ (t : TextRead). t.ending) r.reads;
-}
+-- lists of bytes that are put together
+split_again : (passed held bytes now : List ℕ) (end : ℕ) → now ≡ drop end (held ++ bytes)
+    → (passed ++ take end (held ++ bytes)) ++ now ≡ (passed ++ held) ++ bytes
+split_again passed held bytes now end e =
+    ap (λ (xs : List ℕ). (passed ++ take end (held ++ bytes)) ++ xs) e
+    ∙ append_assoc passed (take end (held ++ bytes)) (drop end (held ++ bytes))
+    ∙ ap (λ (xs : List ℕ). passed ++ xs) (take-append-drop end (held ++ bytes))
+    ∙ sym (append_assoc passed held bytes)
 
-module _ (source middle last : SourceState) (before now : ReaderState) (items : List Item)
+-- the byte in front of an item's end, in the bytes passed with it
+end_place : (size end : ℕ) → 1 ≤ end → size + end - 1 ≡ size + (end - 1)
+end_place size end some = omega arith
+
+before_end : (end : ℕ) → 1 ≤ end → end - 1 < end
+before_end end some = omega arith
+
+passed_line_end : (passed rest : List ℕ) (end now : ℕ) → 1 ≤ end → now ≡ length passed + end → slice_index rest (end - 1) ≡ line_feed
+    → HasLineEnd (passed ++ take end rest) now
+passed_line_end passed rest end now some e h =
+    ap (λ (n : ℕ). get_or (passed ++ take end rest) (n - 1) 0) e
+    ∙ ap (λ (n : ℕ). get_or (passed ++ take end rest) n 0) (end_place (length passed) end some)
+    ∙ get_or-append-add passed (take end rest) (end - 1) 0
+    ∙ get_or-take end rest (end - 1) 0 (before_end end some) ∙ h
+
+-- what had not ended now hadn't before
+open_before : (before now : Bool) → (before ≡ true → now ≡ true) → now ≡ false → before ≡ false
+open_before true now keeps e = let k = keeps refl in cc
+open_before false now keeps e = refl
+
+not_ended : {Z : Type 0} (now : Bool) → now ≡ true → now ≡ false → Z
+not_ended now e f = absurd (cc)
+
+plus_all : (before held bytes : ℕ) (passed all : ℕ) → passed ≡ before → before + held + bytes ≤ most_bytes + 1 → all ≡ passed + held + bytes
+    → all ≤ most_bytes + 1
+plus_all before held bytes passed all e h s = omega (arith, e, h, s)
+
+one_item_more : (few before end now all : ℕ) → few ≤ before → 1 ≤ end → now ≡ before + end → all ≡ few + 1 → all ≤ now
+one_item_more few before end now all h some e f = omega arith
+
+module _ (source middle last : SourceState) (before now : ReaderState) (items : List Listed)
     (so_far : ReadSoFar source middle before items) where
   -- the bytes that were taken, with the next call
-  pub taken_in_all : (result : Result (Option Item) NextFault) → (m : NextMeans result before now middle last)
-      → HavePassed source last (so_far.bytes ++ m.bytes)
-  taken_in_all result m = record {
-    passes = Passes-trans source middle last so_far.bytes m.bytes so_far.passes m.passes;
-    bound = let both = length-append so_far.bytes m.bytes in omega (arith, both, so_far.count, m.most);
-    later = omega (arith, so_far.later, m.later);
-  }
+  module _ (result : Result (Option Item) NextFault) (m : NextMeans result before now middle last) where
+    abbrev pub all_bytes : List ℕ
+    all_bytes = (so_far.passed ++ before.held) ++ m.bytes
 
-  -- the source failed
-  pub read_rose : NextMeans (Err Read) before now middle last → Rose source.faults last.faults
-  read_rose m = Rose-late source.faults middle.faults last.faults so_far.later m.answer.rose
+    all_length : length all_bytes ≡ length so_far.passed + length before.held + length m.bytes
+    all_length = length-append (so_far.passed ++ before.held) m.bytes
+        ∙ ap (λ (n : ℕ). n + length m.bytes) (length-append so_far.passed before.held)
 
-  -- one more item of the bytes taken
-  taken_more : (item : Item) (bytes more : List ℕ) → Continues (so_far.bytes ++ (bytes ++ more)) (bytes ++ more) before items
-      → reading_of before (bytes ++ more) ≡ with_item (listed item) now.bytes (reading_of now more)
-      → Continues ((so_far.bytes ++ bytes) ++ more) more now (items ++ item ∷ [])
-  taken_more item bytes more h e = subst (λ (xs : List ℕ). Continues xs more now (items ++ item ∷ []))
-      (sym (append_assoc so_far.bytes bytes more)) (record {
-        items_are = h.items_are ∙ ap (λ (t : TextRead). map listed items ++ t.items) e ∙ listed_more items item (reading_of now more);
-        ending_is = h.ending_is ∙ ap (λ (t : TextRead). t.ending) e;
-      })
+    all_bound : length all_bytes ≤ most_bytes + 1
+    all_bound = plus_all before.bytes (length before.held) (length m.bytes) (length so_far.passed) (length all_bytes) so_far.count m.most
+        all_length
+
+    all_later : source.faults ≤ last.faults
+    all_later = omega (arith, so_far.later, m.later)
+
+    pub all_passed : HavePassed source last all_bytes
+    all_passed = record {
+      passes = Passes-trans source middle last (so_far.passed ++ before.held) m.bytes so_far.passes m.passes;
+      bound = all_bound;
+      later = all_later;
+    }
 
   -- nothing comes behind bytes of which the last were taken at the end
   none_behind : (bytes more : List ℕ) → (before.ended ≡ true → bytes ≡ []) → (before.ended ≡ true → now.ended ≡ true)
@@ -148,29 +160,63 @@ module _ (source middle last : SourceState) (before now : ReaderState) (items : 
       → before.ended ≡ true → bytes ++ more ≡ []
   none_behind bytes more nothing keeps none e = ap (λ (xs : List ℕ). xs ++ more) (nothing e) ∙ none (keeps e)
 
-  pub read_item : (item : Item) (more : List Item) → NextMeans (Ok (Some item)) before now middle last
-      → more ≡ items ++ item ∷ [] → ReadSoFar source last now more
-  read_item item more m e = subst (λ (xs : List Item). ReadSoFar source last now xs) (sym e) (record {
-    bytes = so_far.bytes ++ m.bytes;
-    passes = Passes-trans source middle last so_far.bytes m.bytes so_far.passes m.passes;
-    count = count_more before now m.bytes so_far.bytes m.answer.end so_far.count m.answer.within m.answer.parts;
-    most = subst (λ (s : ReaderState). s.bytes ≤ most_bytes) (sym m.answer.parts) m.answer.most;
-    live = ap (λ (s : ReaderState). s.live) m.answer.parts;
-    later = omega (arith, so_far.later, m.later);
-    handed = m.handed;
-    taken = λ more none. taken_more item m.bytes more
-        (so_far.taken (m.bytes ++ more) (none_behind m.bytes more (λ e. (m.untaken e).nothing) m.keeps none))
-        (calls_read_taken (Ok (Some item)) before now middle last m more none);
-    reads = reads source.left so_far.reads;
-    are_items = All-push (λ (i : Item). IsItem (listed i)) items item so_far.are_items
-        (items_are_items (before.held ++ m.bytes) (listed item) m.answer.end m.answer.is_first);
-  })
-    where
-      reads : (l : Option (List ℕ)) → IfSome l (λ text. ReadsOn text middle.left before items)
-          → IfSome l (λ text. ReadsOn text last.left now (items ++ item ∷ []))
-      reads None r = tt
-      reads (Some text) r = reads_more text middle.left last.left before now items item r.more r.items_are r.ending_is
-          (calls_read (Ok (Some item)) before now r.more middle last r.told m)
+  module _ (item : Item) (m : NextMeans (Ok (Some item)) before now middle last) where
+    abbrev rest : List ℕ
+    rest = before.held ++ m.bytes
+
+    abbrev passed_now : List ℕ
+    passed_now = so_far.passed ++ take m.answer.end rest
+
+    split_now : passed_now ++ now.held ≡ all_bytes (Ok (Some item)) m
+    split_now =
+        split_again so_far.passed before.held m.bytes now.held m.answer.end (ap (λ (s : ReaderState). s.held) m.answer.parts)
+
+    bytes_now : now.bytes ≡ length so_far.passed + m.answer.end
+    bytes_now = ap (λ (s : ReaderState). s.bytes) m.answer.parts ∙ ap (λ (n : ℕ). n + m.answer.end) (sym so_far.count)
+
+    count_now : length passed_now ≡ now.bytes
+    count_now = length-append so_far.passed (take m.answer.end rest)
+        ∙ ap (λ (n : ℕ). length so_far.passed + n) (length-take-le m.answer.end rest m.answer.within) ∙ sym bytes_now
+
+    taken_now : (more : List ℕ) → (now.ended ≡ true → more ≡ [])
+        → read_text (all_bytes (Ok (Some item)) m ++ more)
+        ≡ with_items (items ++ listed item ∷ []) (so_far.ends ++ now.bytes ∷ []) (reading_of now more)
+    taken_now more none =
+        ap read_text (append_assoc (so_far.passed ++ before.held) m.bytes more)
+        ∙ so_far.taken (m.bytes ++ more) (none_behind m.bytes more (λ e. (m.untaken e).nothing) m.keeps none)
+        ∙ ap (with_items items so_far.ends) (calls_read_taken (Ok (Some item)) before now middle last m more none)
+        ∙ with_more items so_far.ends (listed item) now.bytes (reading_of now more)
+
+    line_now : now.ended ≡ false → ((slice_index rest (m.answer.end - 1) ≡ line_feed) ⊎ (slice_index rest (m.answer.end - 1) ≢ line_feed))
+        → HasLineEnd passed_now now.bytes
+    line_now still (inl line) = passed_line_end so_far.passed rest m.answer.end now.bytes m.answer.some bytes_now line
+    line_now still (inr none) = not_ended now.ended (m.answer.ended_unless none) still
+
+    ended_now : now.ended ≡ false → All (HasLineEnd passed_now) (so_far.ends ++ now.bytes ∷ [])
+    ended_now still = All-push (HasLineEnd passed_now) so_far.ends now.bytes
+        (All-weaker (HasLineEnd so_far.passed) (HasLineEnd passed_now)
+        (λ end h. has_line_end_more so_far.passed (take m.answer.end rest) end h) so_far.ends
+        (so_far.ended (open_before before.ended now.ended m.keeps still)))
+        (line_now still (cases_eq (slice_index rest (m.answer.end - 1)) line_feed))
+
+    pub read_item : ReadSoFar source last now (items ++ listed item ∷ [])
+    read_item = record {
+      passed = passed_now;
+      passes = subst (λ (xs : List ℕ). Passes source last xs) (sym split_now) (all_passed (Ok (Some item)) m).passes;
+      count = count_now;
+      most = subst (λ (s : ReaderState). s.bytes ≤ most_bytes) (sym m.answer.parts) m.answer.most;
+      bound = subst (λ (xs : List ℕ). length xs ≤ most_bytes + 1) (sym split_now) (all_passed (Ok (Some item)) m).bound;
+      few = one_item_more (length items) before.bytes m.answer.end now.bytes (length (items ++ listed item ∷ [])) so_far.few
+          m.answer.some (ap (λ (s : ReaderState). s.bytes) m.answer.parts) (length-append items (listed item ∷ []));
+      live = ap (λ (s : ReaderState). s.live) m.answer.parts;
+      later = (all_passed (Ok (Some item)) m).later;
+      handed = m.handed;
+      ends = so_far.ends ++ now.bytes ∷ [];
+      as_many = length-append so_far.ends (now.bytes ∷ []) ∙ ap (λ (n : ℕ). n + 1) so_far.as_many
+          ∙ sym (length-append items (listed item ∷ []));
+      taken = λ more none. ap (λ (xs : List ℕ). read_text (xs ++ more)) split_now ∙ taken_now more none;
+      ended = ended_now;
+    }
 
 -- fewer bytes are left to pass
 pub passes_more : (before now : ReaderState) (bytes : List ℕ) (source : SourceState) (item : Item)
@@ -179,91 +225,52 @@ passes_more before now bytes source item g =
     let passed = ap (λ (s : ReaderState). s.bytes) g.parts in
     omega (arith, g.some, g.most, passed)
 
--- a reading that ends behind the items read so far
-ends_items : (items : List Item) (ending : TextEnd) (all : List _) (more : TextRead) → all ≡ map listed items ++ more.items
-    → more ≡ no_more ending
-    → all ≡ map listed items
-ends_items items ending all more i e = i ∙ ap (λ (t : TextRead). map listed items ++ t.items) e ∙ append-nil (map listed items)
+-- The text of a run behind the bytes that were taken: what the source told that it had left, or the bytes of a last call.
+pub record TextBehind (source middle : SourceState) (reader : ReaderState) (first bytes : List ℕ) : Type 0 where
+  pub more : List ℕ
+  pub text_is : text_of source.left (first ++ bytes) ≡ first ++ more
+  pub none : reader.ended ≡ true → more ≡ []
+  pub which : (more ≡ bytes) ⊎ (middle.left ≡ Some more)
 
--- how the text ends where there is no further item
-abbrev pub EndsAs : Result (Option Item) NextFault → Ending → Type 0
-EndsAs (Ok None) ending = ending ≡ endings.End
-EndsAs (Ok (Some item)) ending = ⊥
-EndsAs (Err (Text fault)) ending = ending ≡ endings.Fault fault
-EndsAs (Err TooLong) ending = ending ≡ endings.TooLong
-EndsAs (Err Read) ending = ⊥
-EndsAs (Err NoMemory) ending = ⊥
+nothing_left : (more : List ℕ) (left : Option (List ℕ)) → left ≡ Some more → IsAtEnd left → more ≡ []
+nothing_left more (Some other) e h = let same : other ≡ more = cc in sym same ∙ h
+nothing_left more None e h = cc
 
-module _ (source middle last : SourceState) (reader now : ReaderState) (items : List Item)
-    (so_far : ReadSoFar source middle reader items) where
-  -- what the call says of the rest that the source told, and of the bytes taken where it tells nothing
-  reads_none : (ending : TextEnd) (all : List ℕ) → ((more : List ℕ) → middle.left ≡ Some more → reading_of reader more ≡ no_more ending)
-      → ((read_text all).items ≡ map listed items) × ((read_text all).ending ≡ ending)
-      → (l : Option (List ℕ)) → IfSome l (λ text. ReadsOn text middle.left reader items)
-      → ((read_text (text_of l all)).items ≡ map listed items) × ((read_text (text_of l all)).ending ≡ ending)
-  reads_none ending all f h None r = h
-  reads_none ending all f h (Some text) r =
-      let last = f r.more r.told in (
-        ends_items items ending (read_text text).items (reading_of reader r.more) r.items_are last,
-        r.ending_is ∙ ap (λ (t : TextRead). t.ending) last,
-      )
+module _ (source middle : SourceState) (reader : ReaderState) (items : List Listed) (so_far : ReadSoFar source middle reader items) where
+  abbrev first : List ℕ
+  first = so_far.passed ++ reader.held
 
-  is_reading : (ending : Ending) (bytes : List ℕ) → (reader.ended ≡ true → bytes ≡ []) → reading_of reader bytes ≡ no_more (text_end ending)
-      → ((more : List ℕ) → middle.left ≡ Some more → reading_of reader more ≡ no_more (text_end ending))
-      → (ending ≡ endings.End → HasEnded last) → IsReading last (text_of source.left (so_far.bytes ++ bytes)) items ending
-  is_reading ending bytes nothing ends told whole =
-      let h = so_far.taken bytes nothing in
-      let all = ends_items items (text_end ending) (read_text (so_far.bytes ++ bytes)).items (reading_of reader bytes) h.items_are ends in
-      let r = reads_none (text_end ending) (so_far.bytes ++ bytes) told (all, h.ending_is ∙ ap (λ (t : TextRead). t.ending) ends)
-      source.left so_far.reads in
-      record { items_are = r.0; ending_is = r.1; whole = whole }
-
-  abbrev Reading_to : List ℕ → Ending → Type 0
-  Reading_to bytes ending = IsReading last (text_of source.left (so_far.bytes ++ bytes)) items ending
-
-  read_ends : (result : Result (Option Item) NextFault) (ending : Ending) → EndsAs result ending
-      → (m : NextMeans result reader now middle last)
-      → Reading_to m.bytes ending
-  read_ends (Ok None) ending e m = subst (λ (x : Ending). Reading_to m.bytes x) (sym e)
-      (is_reading endings.End m.bytes (λ e. (m.untaken e).nothing) (calls_read_taken (Ok None) reader now middle last m)
-      (λ more told. calls_read (Ok None) reader now more middle last told m) (λ _. m.handed m.answer.has_ended))
-  read_ends (Ok (Some item)) ending e m = absurd e
-  read_ends (Err (Text fault)) ending e m = subst (λ (x : Ending). Reading_to m.bytes x) (sym e)
-      (is_reading (endings.Fault fault) m.bytes (λ e. (m.untaken e).nothing) (calls_read_taken (Err (Text fault)) reader now middle last m)
-      (λ more told. calls_read (Err (Text fault)) reader now more middle last told m) (λ other. cc))
-  read_ends (Err TooLong) ending e m = subst (λ (x : Ending). Reading_to m.bytes x) (sym e)
-      (is_reading endings.TooLong m.bytes (λ e. (m.untaken e).nothing) (calls_read_taken (Err TooLong) reader now middle last m)
-      (λ more told. calls_read (Err TooLong) reader now more middle last told m) (λ other. cc))
-  read_ends (Err Read) ending e m = absurd e
-  read_ends (Err NoMemory) ending e m = absurd e
-
-  is_text : (result : Result (Option Item) NextFault) (m : NextMeans result reader now middle last)
-      → IsText source last (text_of source.left (so_far.bytes ++ m.bytes))
-  is_text result m =
+  text_by : (bytes : List ℕ) → (reader.ended ≡ true → bytes ≡ []) → (left : Option (List ℕ)) → source.left ≡ left
+      → TextBehind source middle reader first bytes
+  text_by bytes nothing None e = record {
+    more = bytes;
+    text_is = ap (λ (o : Option (List ℕ)). text_of o (first ++ bytes)) e;
+    none = nothing;
+    which = inl refl;
+  }
+  text_by bytes nothing (Some text) e =
+      let told = Passes-told source middle text first e so_far.passes in
       record {
-        bytes = so_far.bytes ++ m.bytes;
-        have_passed = taken_in_all source middle last reader now items so_far result m;
-        text_is = refl;
+        more = told.0;
+        text_is = ap (λ (o : Option (List ℕ)). text_of o (first ++ bytes)) e ∙ told.2;
+        none = λ end. nothing_left told.0 middle.left told.1 (so_far.handed end).nothing_left;
+        which = inr told.1;
       }
 
-  -- a reading that ends
-  pub reads_end : (result : Result (Option Item) NextFault) (read : Reading) → read.items.items ≡ items → EndsAs result read.ending
-      → NextMeans result reader now middle last → Reads (Ok read) source last
-  reads_end result read same e m = record {
-    text = text_of source.left (so_far.bytes ++ m.bytes);
-    is_text = is_text result m;
-    means = subst (λ (xs : List Item). IsReading last (text_of source.left (so_far.bytes ++ m.bytes)) xs read.ending) (sym same)
-        (read_ends result read.ending e m);
-  }
+  pub text_behind : (bytes : List ℕ) → (reader.ended ≡ true → bytes ≡ []) → TextBehind source middle reader first bytes
+  text_behind bytes nothing = text_by bytes nothing source.left refl
 
-  pub reads_rose : NextMeans (Err Read) reader now middle last → Reads (Err reading_faults.Source) source last
-  reads_rose m = record {
-    text = text_of source.left (so_far.bytes ++ m.bytes);
-    is_text = is_text (Err Read) m;
-    means = read_rose source middle last reader now items so_far m;
-  }
+  -- the reading of the text of a run has the items read so far
+  pub text_reading : (bytes : List ℕ) → (t : TextBehind source middle reader first bytes)
+      → read_text (text_of source.left (first ++ bytes)) ≡ with_items items so_far.ends (reading_of reader t.more)
+  text_reading bytes t = ap read_text t.text_is ∙ so_far.taken t.more t.none
 
-  pub reads_no_memory : (result : Result (Option Item) NextFault) → NextMeans result reader now middle last
-      → Reads (Err reading_faults.NoMemory) source last
-  reads_no_memory result m =
-      record { text = text_of source.left (so_far.bytes ++ m.bytes); is_text = is_text result m; means = tt }
+  -- and ends behind them where a call finds no further item
+  pub text_ends : (ending : TextEnd) (bytes : List ℕ) (t : TextBehind source middle reader first bytes)
+      → reading_of reader bytes ≡ no_more ending → ((more : List ℕ) → middle.left ≡ Some more → reading_of reader more ≡ no_more ending)
+      → read_text (text_of source.left (first ++ bytes)) ≡ with_items items so_far.ends (no_more ending)
+  text_ends ending bytes t of_taken of_told = text_reading bytes t ∙ ap (with_items items so_far.ends) (by t.which)
+    where
+      by : ((t.more ≡ bytes) ⊎ (middle.left ≡ Some t.more)) → reading_of reader t.more ≡ no_more ending
+      by (inl e) = ap (reading_of reader) e ∙ of_taken
+      by (inr told) = of_told t.more told

@@ -11,6 +11,7 @@ use Rattle.palp_engine.specs.Items.{IsItemRefused, IsPiece}
 use Rattle.palp_engine.specs.Entries.{Entry, AreEntries}
 use Rattle.palp_engine.specs.Commands.{Says}
 use Rattle.palp_engine.specs.Texts.{HaveReport, IsReport, IsFront}
+use Rattle.palp_engine.specs.Ended.{IsEndedReport}
 use Rattle.palp_engine.specs.declared.outcome.Outcome.{Outcome}
 
 -- points have no two body lines
@@ -63,3 +64,13 @@ FrontsAreFronts = (words : List (List ℕ)) (text : List ℕ) (front report : Li
 abbrev pub EmptyFront : Type 0
 EmptyFront = (words : List (List ℕ)) (text : List ℕ) (front : List (List ℕ)) → IsFront words text front → IsReport words text []
     → front ≡ []
+
+-- the items whose last line end stands among some bytes have one report
+abbrev pub OneEndedReport : Type 0
+OneEndedReport = (words : List (List ℕ)) (bytes : List ℕ) (report other : List (List ℕ)) → IsEndedReport words bytes report
+    → IsEndedReport words bytes other → report ≡ other
+
+-- and it is a front of the report of these bytes
+abbrev pub EndedReportsAreFronts : Type 0
+EndedReportsAreFronts = (words : List (List ℕ)) (bytes : List ℕ) (report : List (List ℕ)) → IsEndedReport words bytes report
+    → IsFront words bytes report

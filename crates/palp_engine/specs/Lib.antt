@@ -3,10 +3,10 @@ pub mod Items
 pub mod Entries
 pub mod Commands
 pub mod Texts
+pub mod Ended
 pub mod Statuses
 pub mod Notes
 pub mod Sessions
 pub mod Runs
 pub mod RunSteps
-pub mod ReadingSteps
 pub mod Laws

@@ -1,19 +1,14 @@
 -- What the steps of a run answer. This project's own.
-use Rattle.std.specs.Prelude.{◌≡◌, ℕ, List, Option, Err}
-use Rattle.lattice_core.specs.declared.faults.Refusal.{Refusal}
+use Rattle.std.specs.Prelude.{◌≡◌, ℕ, List, Err}
 use Rattle.lattice_core.specs.declared.faults.Fault.{Fault}
 use Rattle.lattice_core.specs.declared.faults.Fault.TheVariants as stops
-use Rattle.palp_io.specs.Faults.{Rose}
 use Rattle.palp_io.specs.Source.{SourceState}
 use Rattle.palp_io.specs.Sink.{SinkState}
-use Rattle.report_theory.specs.Report.{Stop}
-use Rattle.report_theory.specs.Giving.{GivesReport, GivesFront}
 use Rattle.palp_words.specs.Words.{words_of}
 use Rattle.palp_words.specs.declared.job.Job.{Job}
-use Rattle.palp_input.specs.Grammar.{TextEnd}
-use Rattle.palp_engine.specs.Entries.{Entry}
-use Rattle.palp_engine.specs.Commands.{AreBuilt, AreUnbuilt, Says}
-use Rattle.palp_engine.specs.Texts.{outcome_with}
+use Rattle.palp_input.specs.declared.fault.NextFault.{NextFault}
+use Rattle.palp_input.specs.declared.fault.NextFault.TheVariants.{Text, TooLong, Read, NoMemory as NoTextMemory}
+use Rattle.palp_engine.specs.Commands.{AreBuilt, AreUnbuilt}
 use Rattle.palp_engine.specs.Runs.{HasTaken, AreUntouched, IsReported, IsReportedInPart, IsDone, HasReadFault, HasWriteFault}
 use Rattle.palp_engine.specs.declared.outcome.Outcome.{Outcome}
 use Rattle.palp_engine.specs.declared.outcome.Outcome.TheVariants.{Done, BadWords, BadText, Refused, TextLimit, NotBuilt, ReadFault, WriteFault, NoMemory}
@@ -25,21 +20,12 @@ abbrev pub IsItemStop : Fault → ItemFault → Type 0
 IsItemStop (stops.Refused cause) fault = fault ≡ faults.Refused cause
 IsItemStop stops.NoMemory fault = fault ≡ faults.NoMemory
 
--- the report of entries was appended, whole, and the outcome is the one that it ends with
-pub record GivesWhole (job : Job) (entries : List Entry) (ending : TextEnd) (out out_now : SinkState) (outcome : Outcome) : Type 0 where
-  pub stop : Option (Stop Refusal)
-  pub gives : GivesReport (Says job) entries stop out out_now
-  pub outcome_is : outcome ≡ outcome_with stop ending
-
--- what an outcome of the report of entries means
-abbrev pub ReportMeans : Job → List Entry → TextEnd → SinkState → SinkState → Outcome → Type 0
-ReportMeans job entries ending out out_now Done = GivesWhole job entries ending out out_now Done
-ReportMeans job entries ending out out_now (BadText fault) = GivesWhole job entries ending out out_now (BadText fault)
-ReportMeans job entries ending out out_now (Refused item cause) = GivesWhole job entries ending out out_now (Refused item cause)
-ReportMeans job entries ending out out_now TextLimit = GivesWhole job entries ending out out_now TextLimit
-ReportMeans job entries ending out out_now WriteFault = Rose out.faults out_now.faults × GivesFront (Says job) entries out out_now
-ReportMeans job entries ending out out_now NoMemory = GivesFront (Says job) entries out out_now
-ReportMeans job entries ending out out_now other = ⊥
+-- the outcome where the reader gives no item and no end
+abbrev pub outcome_unread : NextFault → Outcome
+outcome_unread (Text fault) = BadText fault
+outcome_unread TooLong = TextLimit
+outcome_unread Read = ReadFault
+outcome_unread NoTextMemory = NoMemory
 
 -- the outcome of an entry with this number whose report isn't given whole
 abbrev pub IsStopped : ℕ → ItemFault → Outcome → Type 0

@@ -10,6 +10,7 @@ use Rattle.palp_words.specs.declared.job.Job.{Job}
 use Rattle.palp_input.specs.Grammar.{most_bytes}
 use Rattle.palp_engine.specs.Commands.{AreUnbuilt, ReadsText}
 use Rattle.palp_engine.specs.Texts.{IsReport, EndsWith, IsFront}
+use Rattle.palp_engine.specs.Ended.{IsEndedReport}
 use Rattle.palp_engine.specs.declared.outcome.Outcome.{Outcome}
 use Rattle.palp_engine.specs.declared.outcome.Outcome.TheVariants.{Done, BadWords, BadText, Refused, TextLimit, NotBuilt, ReadFault, WriteFault, NoMemory}
 
@@ -83,14 +84,15 @@ IsRefusal ReadFault = ⊥
 IsRefusal WriteFault = ⊥
 IsRefusal NoMemory = ⊥
 
--- the source failed: its count of faults rose, and a front of the report of the bytes that passed was appended
+-- the source failed: its count of faults rose, and exactly the pieces of those items were appended, in order, whose last line end stands among
+-- the bytes that passed
 pub record HasReadFault (words : List (List ℕ)) (source source_now : SourceState) (out out_now : SinkState) : Type 0 where
   pub rose : Rose source.faults source_now.faults
   pub bytes : List ℕ
   pub have_passed : HavePassed source source_now bytes
-  pub front : List (List ℕ)
-  pub is_front : IsFront words bytes front
-  pub gives : GivesPieces out out_now front
+  pub report : List (List ℕ)
+  pub is_ended : IsEndedReport words bytes report
+  pub gives : GivesPieces out out_now report
 
 -- the sink of the report failed: its count of faults rose, and a front of the report was appended
 pub record HasWriteFault (words : List (List ℕ)) (source source_now : SourceState) (out out_now : SinkState) : Type 0 where

@@ -1,24 +1,17 @@
 //! The top call.
 
 ghost use Rattle.std.specs.Prelude.{◌≡◌, ◌<◌, ◌≤◌, ◌^◌, ◌↔◌, IsTrue, map, length};
-ghost use Rattle.std.specs.List.{All};
 ghost use Rattle.std.specs.String.{string_bytes};
-ghost use Rattle.palp_input.specs.Grammar.{listed};
-ghost use Rattle.palp_input.specs.Items.{IsItem};
-ghost use Rattle.palp_engine.specs.Entries.{item_entry};
 ghost use Rattle.palp_engine.specs.Commands.{IsBuilt};
 ghost use Rattle.palp_engine.specs.Notes.{note_line, IsNoted};
-ghost use Rattle.palp_engine.specs.Texts.{outcome_of};
-ghost use Rattle.palp_engine.specs.ReadingSteps.{text_end};
-ghost use Rattle.palp_engine.specs.RunSteps.{IsAnswered, IsPerformed, IsStopped, ReportMeans};
+ghost use Rattle.palp_engine.specs.RunSteps.{IsAnswered, IsPerformed, IsStopped, outcome_unread};
 ghost use Rattle.palp_engine.specs.Runs.{HasTaken, TellsBadWords, TellsNotBuilt, IsDone, IsRefusal, IsReported, HasReadFault, HasWriteFault, IsReportedInPart, IsComplete};
 ghost use Rattle.palp_engine.specs.declared.outcome.Outcome.TheVariants.{Done, ReadFault, WriteFault, NoMemory};
 
 use crate::Outcome;
 use crate::lines::note_line as note_of;
-use crate::reading::{Ending, ReadingFault, read_all};
 use crate::session::{ItemFault, Session, report_item};
-use palp_input::Item;
+use palp_input::{NextFault, Reader};
 use palp_io::{Sink, Source};
 use palp_words::{Job, PolyFlags, read_words};
 use std::alloc::Global;
@@ -44,14 +37,15 @@ fn is_built(job: &Job) -> bool
     *job == PLAIN
 }
 
-/// The outcome of a text that ends so, where no item is refused.
-fn outcome_of(ending: Ending) -> Outcome
-    ensures { result ≡ outcome_of (text_end ending) }
+/// The outcome where the reader gives no item and no end.
+fn unread(fault: NextFault) -> Outcome
+    ensures { result ≡ outcome_unread fault }
 {
-    match ending {
-        Ending::End => Outcome::Done,
-        Ending::Fault(fault) => Outcome::BadText(fault),
-        Ending::TooLong => Outcome::TextLimit,
+    match fault {
+        NextFault::Text(fault) => Outcome::BadText(fault),
+        NextFault::TooLong => Outcome::TextLimit,
+        NextFault::Read => Outcome::ReadFault,
+        NextFault::NoMemory => Outcome::NoMemory,
     }
 }
 
@@ -69,32 +63,26 @@ fn stopped(number: u64, fault: ItemFault) -> Outcome
     }
 }
 
-/// Reports items up to the first that is refused.
-fn report<O: Sink>(alloc: Global, job: &Job, items: &[Item], ending: Ending, out: &mut O) -> Outcome
-    requires job { IsBuilt job.now }
-    requires items { All (λ item. IsItem (listed item)) items.now }
-    ensures { ReportMeans job.now (map item_entry items.now) (text_end ending) (O.state out.old) (O.state out.new) result }
+/// Reports the items of the source, each before the next one is read, up to the first that is refused.
+fn report<S: Source, O: Sink>(alloc: Global, job: &Job, src: &mut S, out: &mut O) -> Outcome
+    requires { IsBuilt job.now }
+    ensures { IsPerformed job.now (S.state src.old) (S.state src.new) (O.state out.old) (O.state out.new) result }
 {
     let Ok(mut session) = Session::open(alloc) else {
         return Outcome::NoMemory;
     };
-    for (place, item) in items.iter().enumerate() {
-        if let Err(fault) = report_item(&mut session, job, item, out) {
-            return stopped(place as u64 + 1, fault);
+    let mut reader = Reader::new(alloc);
+    let mut number = 0;
+    loop {
+        let item = match reader.next_item(src) {
+            Ok(Some(item)) => item,
+            Ok(None) => return Outcome::Done,
+            Err(fault) => return unread(fault),
+        };
+        number += 1;
+        if let Err(fault) = report_item(&mut session, job, &item, out) {
+            return stopped(number, fault);
         }
-    }
-    outcome_of(ending)
-}
-
-/// Does the job that is built.
-fn perform<S: Source, O: Sink>(alloc: Global, job: &Job, src: &mut S, out: &mut O) -> Outcome
-    requires { IsBuilt job.now }
-    ensures { IsPerformed job.now (S.state src.old) (S.state src.new) (O.state out.old) (O.state out.new) result }
-{
-    match read_all(alloc, src) {
-        Ok(reading) => report(alloc, job, &reading.items, reading.ending, out),
-        Err(ReadingFault::Source) => Outcome::ReadFault,
-        Err(ReadingFault::NoMemory) => Outcome::NoMemory,
     }
 }
 
@@ -104,7 +92,7 @@ fn answer<S: Source, O: Sink>(alloc: Global, words: &[String], src: &mut S, out:
     ensures { IsAnswered (map string_bytes words.now) (S.state src.old) (S.state src.new) (O.state out.old) (O.state out.new) result }
 {
     match read_words(words) {
-        Ok(job) if is_built(&job) => perform(alloc, &job, src, out),
+        Ok(job) if is_built(&job) => report(alloc, &job, src, out),
         Ok(_) => Outcome::NotBuilt,
         Err(fault) => Outcome::BadWords(fault),
     }
@@ -112,8 +100,8 @@ fn answer<S: Source, O: Sink>(alloc: Global, words: &[String], src: &mut S, out:
 
 /// Runs the command that the words say, which are those of the command line without the program's name; there are fewer than 2^31.
 ///
-/// `poly` with `-n`, and without another block, reads the source to its end, and then reports the items of its text (docs/formats.md) one
-/// after another: for each one the line `M:points vertices F:facets`, behind the numbers of a weight line. `Done` comes where the whole
+/// `poly` with `-n`, and without another block, reads the items of the source's text (docs/formats.md) and reports them one after another,
+/// each before it reads on: for each one the line `M:points vertices F:facets`, behind the numbers of a weight line. `Done` comes where the whole
 /// report was given. `Refused` tells the first item that exceeds a limit (docs/limits.md) or is flat, `BadText` the first fault of the
 /// text, and `TextLimit` a text of more than 67,108,864 bytes; the items before are reported. Other commands are `NotBuilt`, and words that
 /// give none are `BadWords`; nothing is read then. `ReadFault` and `WriteFault` come only where the count of faults of the source, or of
@@ -147,8 +135,8 @@ pub fn run<S: Source, O: Sink, N: Sink>(
     ensures refusals { IsRefusal result
         → IsReported (map string_bytes words.now) (S.state src.old) (S.state src.new) (O.state out.old) (O.state out.new) result }
 
-    // With `ReadFault` the count of faults of the source rose, and a front of the report of the bytes that passed was appended. With
-    // `WriteFault` that of `out` rose; with it and with `NoMemory` a front of the report was appended.
+    // With `ReadFault` the count of faults of the source rose, and exactly the pieces of those items were appended whose last line end stands
+    // among the bytes that passed. With `WriteFault` that of `out` rose; with it and with `NoMemory` a front of the report was appended.
     ensures read_fault { result ≡ ReadFault
         → HasReadFault (map string_bytes words.now) (S.state src.old) (S.state src.new) (O.state out.old) (O.state out.new) }
     ensures write_fault { result ≡ WriteFault

@@ -11,7 +11,6 @@ mod laws;
 mod lines;
 mod outcome;
 mod polytopes;
-mod reading;
 mod session;
 #[cfg(test)]
 mod tests;

@@ -5,7 +5,6 @@ ghost use Rattle.palp_input.specs.Grammar.{listed};
 ghost use Rattle.palp_input.specs.Items.{IsItem};
 
 use crate::command::PLAIN;
-use crate::reading::read_all;
 use crate::{ItemFault, Outcome, Session, report_item, run};
 use lattice_core::Refusal;
 use palp_input::{Item, Matrix};
@@ -24,20 +23,29 @@ fn triangle(alloc: Global) -> Result<Item, Fail>
     }))
 }
 
+fn flat_points(alloc: Global) -> Result<Item, Fail>
+    ensures { IfOk result (λ item. IsItem (listed item)) }
+{
+    let entries = vec![in alloc; 0, 0, 1, 1, 2, 2]?;
+    Ok(Item::Points(Matrix {
+        lines: 3,
+        columns: 2,
+        entries,
+    }))
+}
+
 #[test]
 fn reports_an_item_behind_a_refused_one(rt: HostRuntime) -> Result<(), Fail> {
     let alloc = rt.alloc();
-    let text = Vec::from_slice(alloc, b"3 2\n0 0\n1 1\n2 2\n3 1 1 1\n")?;
-    let mut source = MemSource::new(text, 7, Vec::new(alloc));
-    let reading = read_all(alloc, &mut source).expect(&rt, "a text that is read");
-    assert_eq!(rt; reading.items.len(), 2);
+    let flat = flat_points(alloc)?;
+    let item = triangle(alloc)?;
     let mut session = Session::open(alloc)?;
     let mut out = MemSink::new(alloc, 100, Vec::new(alloc))?;
-    let refused = report_item(&mut session, &PLAIN, &reading.items[0], &mut out);
+    let refused = report_item(&mut session, &PLAIN, &flat, &mut out);
     assert!(rt; matches!(refused, Err(ItemFault::Refused(Refusal::Flat(_)))));
     assert!(rt; out.given().is_empty());
-    assert!(rt; report_item(&mut session, &PLAIN, &reading.items[1], &mut out) == Ok(()));
-    assert!(rt; out.given() == b"3 1 1 1 M:10 3 F:3\n".as_slice());
+    assert!(rt; report_item(&mut session, &PLAIN, &item, &mut out) == Ok(()));
+    assert!(rt; out.given() == b"M:11 3 F:3\n".as_slice());
     Ok(())
 }
 

@@ -18,3 +18,4 @@ pub mod Readings
 pub mod ItemForms
 pub mod KeptNumbers
 pub mod FaultPlaces
+pub mod LineEnds

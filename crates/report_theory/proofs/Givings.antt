@@ -8,7 +8,7 @@ use Rattle.palp_io.proofs.SinkLemmas.{Gains-none, Gains-trans}
 use Rattle.report_theory.specs.Report.{Closing, Ends, Step, Piece, Close, Stop, stop_at, IsFollowed}
 use Rattle.report_theory.specs.Giving.{GivesPieces, GivesItem, GivesReport, GivesFront}
 use Rattle.report_theory.proofs.Passing.{first_stop, with_closing, Begun, Passed, begun_nothing, begun_piece, begun_closed, begun_front, begun_part}
-use Rattle.report_theory.proofs.Passing.{passed_nothing, passed_item, passed_end, passed_part, passed_all}
+use Rattle.report_theory.proofs.Passing.{passed_nothing, passed_item, passed_end, passed_part, passed_front, passed_all}
 
 at_least : (n : ℕ) → n ≤ n
 at_least n = omega arith
@@ -101,6 +101,14 @@ module _ {X R : Type 0} (says : X → ℕ → Step R → Type 0) (first : SinkSt
       reported_all = record {
         report = so_far.pieces;
         is_report = passed_all says seen so_far.pieces stop so_far.passed;
+        gives = so_far.gives;
+      }
+
+      -- and a front of the report of these items and more
+      pub reported_front : (behind : List X) → GivesFront says (seen ++ behind) first now
+      reported_front behind = record {
+        front = so_far.pieces;
+        is_front = passed_front says seen so_far.pieces stop so_far.passed behind;
         gives = so_far.gives;
       }
 

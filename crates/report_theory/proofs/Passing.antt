@@ -171,6 +171,11 @@ module _ {X R : Type 0} (says : X → ℕ → Step R → Type 0) where
         → IsListFront says 0 (seen ++ item ∷ behind) (begin ++ own)
     passed_part item behind own f = so_far.front_on (item ∷ behind) own (front_of_more 0 (item ∷ []) behind own f)
 
+    -- the report was left off between two items
+    pub passed_front : (behind : List X) → IsListFront says 0 (seen ++ behind) begin
+    passed_front behind = subst (λ (xs : List (List ℕ)). IsListFront says 0 (seen ++ behind) xs) (append-nil begin)
+        (so_far.front_on behind [] nothing)
+
     -- all items were passed
     pub passed_all : IsListReport says 1 0 seen begin first
     passed_all = subst (λ (s : Option (Stop R)). IsListReport says 1 0 seen begin s) (first_none first)

@@ -5,8 +5,8 @@ use Rattle.palp_engine.proofs.command.answer.Goals as goal
 
 pub returns-in-Ok : goal.returns-in-Ok
 returns-in-Ok g c =
-    performed_answer (map (λ w. string_bytes w) c.args.words.now) c.in-Ok.job _ _ _ _ c.perform.result c.in-Ok.ensures
-    (c.is_built.ensures.0 c.if-is_built.true) c.perform.ensures
+    performed_answer (map (λ w. string_bytes w) c.args.words.now) c.in-Ok.job _ _ _ _ c.report.result c.in-Ok.ensures
+    (c.is_built.ensures.0 c.if-is_built.true) c.report.ensures
 
 pub returns-in-Ok-2 : goal.returns-in-Ok-2
 returns-in-Ok-2 g c =

@@ -1,6 +1,7 @@
 use Rattle.palp_engine.proofs.SingleAnswers.{one_line, one_refusal, line_or_refusal}
 use Rattle.palp_engine.proofs.SingleItems.{one_piece, one_item_refusal, piece_or_refusal}
 use Rattle.palp_engine.proofs.SingleReports.{one_list_of_entries, one_list, one_report, fronts_are_fronts, empty_front}
+use Rattle.palp_engine.proofs.SingleEnded.{one_ended_report, ended_reports_are_fronts}
 use Rattle.palp_engine.proofs.laws.answers_are_single.Goals as goal
 
 pub returns-clause-line : goal.returns-clause-line
@@ -35,3 +36,9 @@ returns-clause-front c = fronts_are_fronts
 
 pub returns-clause-empty : goal.returns-clause-empty
 returns-clause-empty c = empty_front
+
+pub returns-clause-ended : goal.returns-clause-ended
+returns-clause-ended c = one_ended_report
+
+pub returns-clause-ended_front : goal.returns-clause-ended_front
+returns-clause-ended_front c = ended_reports_are_fronts
