@@ -1,6 +1,6 @@
+use crate::TextKind::{BadByte, BadNumber, MatrixShort, NoWeights, NumberRange, Quotient};
 use crate::fault::{NextFault, TextKind};
 use crate::tests::{read_all, text_fault};
-use crate::TextKind::{BadByte, BadNumber, MatrixShort, NoWeights, NumberRange, Quotient};
 use std::alloc::Global;
 use std::test::Fail;
 

@@ -1,5 +1,5 @@
 // A reader of items.
-ghost use Rattle.std.specs.Prelude.{◌≡◌, ◌+◌, ◌≤◌, ◌<◌, ◌^◌, ◌||◌, nat_lt, ◌++◌, replicate, MatchResult, [], true, false, length, take, drop};
+ghost use Rattle.std.specs.Prelude.{◌≡◌, ◌+◌, ◌*◌, ◌≤◌, ◌<◌, ◌^◌, ◌||◌, nat_lt, ◌++◌, replicate, MatchResult, [], true, false, length, take, drop};
 ghost use Rattle.palp_input.specs.Grammar.{line_feeds, column_behind, most_bytes, text_fault};
 ghost use Rattle.palp_input.specs.FrontSteps.{Seen};
 ghost use Rattle.palp_input.specs.ReaderSteps.{HeldMeans, LastMeans, TakeMoreMeans, TakeIntoMeans};
@@ -260,7 +260,8 @@ fn clear_behind(bytes: &mut Vec<u8>, count: usize) -> Result<(), NoMemory>
 /// The most bytes of the next take: twice as many as the last one gave, so that few are cleared for a
 /// source that gives few.
 fn next_take(count: usize) -> usize
-    ensures least { 1 ≤ result }
+    ensures least { LEAST_TAKE ≤ result }
+    ensures twice { 2 * count ≤ CHUNK → 2 * count ≤ result }
     ensures most { result ≤ CHUNK }
 {
     count.min(CHUNK / 2).max(LEAST_TAKE / 2) * 2
