@@ -3,7 +3,7 @@ pub mod Reaches
 pub mod AbsoluteSums
 pub mod Constants
 pub mod DilatePoints
-pub mod Gains
-pub mod ScanWalks
-pub mod RulingOut
+pub mod Holdings
+pub mod Scans
+pub mod RunPoints
 pub mod SegmentSteps

@@ -1,10 +1,10 @@
 -- The segment from -2 to 5 as the calls take it.
 use Rattle.std.specs.Prelude.{ℤ}
-use Rattle.std.proofs.Common.{◌≡◌, ◌≤◌, List, [], ◌∷◌, length, refl, sym, subst, arith}
+use Rattle.std.proofs.Common.{◌≡◌, List, [], ◌∷◌, length, refl, sym, subst, arith}
 use Rattle.lattice_theory.specs.Affine.{Affine}
 use Rattle.lattice_theory.specs.Facet.{AreFacetsInAnyOrder}
 use Rattle.lattice_theory.specs.Examples.{segment}
-use Rattle.lattice_theory.proofs.Members.{Each, empty, more, all_from_each}
+use Rattle.lattice_theory.proofs.Members.{empty, more, all_from_each}
 use Rattle.lattice_theory.proofs.SegmentFacets.{lower, upper, segment_facets, segment_not_flat}
 use Rattle.lattice_core.specs.Dimensions.{dimension_of}
 use Rattle.lattice_core.specs.PointLists.{AreSolidPoints}

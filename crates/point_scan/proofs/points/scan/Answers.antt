@@ -1,198 +1,128 @@
-use Rattle.std.proofs.Common.{◌≡◌, ◌≤◌, ◌<◌, ◌+◌, true, false, length, refl, sym, ap, ◌∙◌, subst, arith, [], ◌∷◌, ◌++◌, length-append, inr}
-use Rattle.std.specs.Prelude.{List, ℤ}
-use Rattle.lattice_theory.specs.Grid.{LexAtMost, IsInBox, IsNext, Follows}
+use Rattle.std.proofs.Common.{◌≡◌, ◌≤◌, ◌<◌, ◌++◌, length, refl, sym, ap, ◌∙◌, subst, arith, length-append}
+use Rattle.lattice_theory.specs.Grid.{Follows}
 use Rattle.lattice_core.specs.declared.limits.TheConstants.{MOST_POINTS}
 use Rattle.lattice_core.specs.Dimensions.{dimension_of}
 use Rattle.facet_theory.specs.Solid.{AreSolid}
-use Rattle.point_scan.proofs.ScanWalks.{IsPast, fewer_moved, at_start, advanced, finished, kept, passed, has_more, at_moved, past_moved}
-use Rattle.point_scan.proofs.RulingOut.{CanRuleOut, can_rule_out}
-use Rattle.point_scan.proofs.AbsoluteSums.{corner_in_box}
+use Rattle.region_walk.specs.Regions.{IsInRegion}
+use Rattle.region_walk.specs.Walks.{first_point, last_point, run_points}
+use Rattle.point_scan.specs.Dilates.{AreDilatePoints}
 use Rattle.point_scan.proofs.DilatePoints.{lattice_from_dilate}
+use Rattle.point_scan.proofs.Scans.{IsScanned, none_found, started, advanced, fewer_left, finished, has_all}
 use Rattle.point_scan.proofs.points.scan.Goals as goal
-use Rattle.point_scan.proofs.points.scan.Goals.{After-start-walk, After-advance, in-Some, in_default+then-len-lt-MOST_POINTS+in_ok-push}
+use Rattle.point_scan.proofs.points.scan.Goals.{In_ok-region, In-Some, After-count, After-advance}
 
 -- the vertices are solid
-solid : (c : After-start-walk) → AreSolid (dimension_of c.args.vertices.now) c.args.vertices.now
-solid c = record {
-  coordinates = c.start-walk.ensures.least;
-  dimension = c.requires.vertices.sized.are_points.one_dimension;
-  solid = c.requires.vertices.solid;
-}
+solid : (c : In_ok-region) → AreSolid (dimension_of c.args.vertices.now) c.args.vertices.now
+solid c =
+    let least = c.in_ok-region.ensures.sound.least in
+    let dimension = c.in_ok-region.ensures.dimension in
+    record {
+      coordinates = omega (arith, least, dimension);
+      dimension = c.requires.vertices.sized.are_points.one_dimension;
+      solid = c.requires.vertices.solid;
+    }
 
-pub loop-kept-init : goal.loop-kept-init
-loop-kept-init c =
+pub returns-in_default-clause-points : goal.returns-in_default-clause-points
+returns-in_default-clause-points c =
     let n = dimension_of c.args.vertices.now in
-    let corners = c.start-walk.ensures.corners in
-    let low = c.start-walk.result.low.items in
-    let high = c.start-walk.result.high.items in
-    let inside = corner_in_box n c.args.vertices.now 1 low high corners in
-    let start = at_start n c.args.vertices.now (solid (goal.at.loop-kept-init c).After-start-walk) 1 low high corners inside in
+    let points = c.args.vertices.now in
+    lattice_from_dilate n points (solid (goal.at.returns-in_default-clause-points c).In_ok-region) c.new-points.result.items
+    (subst (AreDilatePoints n points 1) (sym c.new-points.ensures.items)
+    (none_found n points 1 c.args.facets.now c.requires.facets c.in_ok-region.region c.in_ok-region.ensures c.in_default.ensures.none))
+
+pub loop-told-init : goal.loop-told-init
+loop-told-init c =
+    let n = dimension_of c.args.vertices.now in
+    let points = c.args.vertices.now in
     let none = c.new-points.ensures.items in
-    record { at = rw (c.start-walk.ensures.position, none) start; few = omega (arith, ap length none) }
+    record {
+      scanned = subst (IsScanned n points 1 c.args.facets.now c.in-Some.walk) (sym none)
+          (started n points 1 c.args.facets.now c.requires.facets c.in_ok-region.region c.in_ok-region.ensures c.in-Some.walk
+          c.in-Some.ensures.region c.in-Some.ensures.run c.in-Some.ensures.first);
+      few = omega (arith, ap length none);
+    }
 
-pub ruled_out-requires-clause-dimension : goal.ruled_out-requires-clause-dimension
-ruled_out-requires-clause-dimension c =
-    (can_rule_out (dimension_of c.args.vertices.now) c.args.vertices.now
-    (solid (goal.at.ruled_out-requires-clause-dimension c).After-start-walk)
-    c.start-walk.ensures.most c.requires.vertices.sized.within c.args.facets.now c.requires.facets 1 (omega arith)
-    c.loop-kept.walk.low.items c.loop-kept.walk.high.items c.loop-kept.walk.position.items c.loop-kept.points.items
-    c.loop-kept.invariant.at).dimension
+pub count-requires : goal.count-requires
+count-requires c = c.loop-told.invariant.scanned.at
 
-pub ruled_out-requires-clause-constants : goal.ruled_out-requires-clause-constants
-ruled_out-requires-clause-constants c =
-    (can_rule_out (dimension_of c.args.vertices.now) c.args.vertices.now
-    (solid (goal.at.ruled_out-requires-clause-constants c).After-start-walk)
-    c.start-walk.ensures.most c.requires.vertices.sized.within c.args.facets.now c.requires.facets 1 (omega arith)
-    c.loop-kept.walk.low.items c.loop-kept.walk.high.items c.loop-kept.walk.position.items c.loop-kept.points.items
-    c.loop-kept.invariant.at).constants
+pub overflow_sub-len : goal.overflow_sub-len
+overflow_sub-len c = let few = c.loop-told.invariant.few in let len = c.len.ensures in omega arith
 
-pub ruled_out-requires-clause-small : goal.ruled_out-requires-clause-small
-ruled_out-requires-clause-small c =
-    (can_rule_out (dimension_of c.args.vertices.now) c.args.vertices.now
-    (solid (goal.at.ruled_out-requires-clause-small c).After-start-walk)
-    c.start-walk.ensures.most c.requires.vertices.sized.within c.args.facets.now c.requires.facets 1 (omega arith)
-    c.loop-kept.walk.low.items c.loop-kept.walk.high.items c.loop-kept.walk.position.items c.loop-kept.points.items
-    c.loop-kept.invariant.at).small
-
-pub ruled_out-requires-clause-small_low : goal.ruled_out-requires-clause-small_low
-ruled_out-requires-clause-small_low c =
-    (can_rule_out (dimension_of c.args.vertices.now) c.args.vertices.now
-    (solid (goal.at.ruled_out-requires-clause-small_low c).After-start-walk)
-    c.start-walk.ensures.most c.requires.vertices.sized.within c.args.facets.now c.requires.facets 1 (omega arith)
-    c.loop-kept.walk.low.items c.loop-kept.walk.high.items c.loop-kept.walk.position.items c.loop-kept.points.items
-    c.loop-kept.invariant.at).small_low
-
-pub ruled_out-requires-clause-small_high : goal.ruled_out-requires-clause-small_high
-ruled_out-requires-clause-small_high c =
-    (can_rule_out (dimension_of c.args.vertices.now) c.args.vertices.now
-    (solid (goal.at.ruled_out-requires-clause-small_high c).After-start-walk)
-    c.start-walk.ensures.most c.requires.vertices.sized.within c.args.facets.now c.requires.facets 1 (omega arith)
-    c.loop-kept.walk.low.items c.loop-kept.walk.high.items c.loop-kept.walk.position.items c.loop-kept.points.items
-    c.loop-kept.invariant.at).small_high
-
-pub returns-else-len-lt-MOST_POINTS-clause-refused : goal.returns-else-len-lt-MOST_POINTS-clause-refused
-returns-else-len-lt-MOST_POINTS-clause-refused c =
-    let vertices = c.args.vertices.now in
-    let n = dimension_of vertices in
-    let s = solid (goal.at.returns-else-len-lt-MOST_POINTS-clause-refused c).After-start-walk in
-    let all = has_more n vertices s 1 c.loop-kept.walk.low.items c.loop-kept.walk.high.items c.args.facets.now c.requires.facets
-    c.loop-kept.walk.position.items
-    c.loop-kept.points.items c.loop-kept.invariant.at c.in_default.ensures.none in
-    let more = all.more in (
+pub returns-then-count-len-clause-refused : goal.returns-then-count-len-clause-refused
+returns-then-count-len-clause-refused c =
+    let n = dimension_of c.args.vertices.now in
+    let points = c.args.vertices.now in
+    let found = c.loop-told.points.items in
+    let all = has_all n points 1 c.args.facets.now c.requires.facets c.loop-told.walk found c.loop-told.invariant.scanned in
+    let more = all.more in
+    let longer = length-append found (run_points c.loop-told.walk) in
+    let count = c.count.ensures.points in
+    let len = c.len.ensures in
+    let few = c.loop-told.invariant.few in
+    let beyond : MOST_POINTS < length all.lattice = omega arith in (
       refl,
       refl,
       record {
         lattice = all.lattice;
-        are_lattice_points = lattice_from_dilate n vertices s all.lattice all.are_dilate_points;
-        more = omega arith;
+        are_lattice_points = lattice_from_dilate n points (solid (goal.at.returns-then-count-len-clause-refused c).In_ok-region) all.lattice
+            all.are_dilate_points;
+        more = beyond;
       },
     )
 
--- what is known before the step of the walk
-record IsReady (c : After-advance) : Type 0 where
-  past : IsPast (dimension_of c.args.vertices.now) c.args.vertices.now 1 c.match-ruled_out.walk.low.items c.match-ruled_out.walk.high.items
-      c.match-ruled_out.walk.position.items c.match-ruled_out.points.items
-  later : LexAtMost c.loop-kept.walk.position.items c.match-ruled_out.walk.position.items
-  low_is : c.match-ruled_out.walk.low.items ≡ c.loop-kept.walk.low.items
-  high_is : c.match-ruled_out.walk.high.items ≡ c.loop-kept.walk.high.items
-  few : length c.match-ruled_out.points.items ≤ MOST_POINTS
+pub push_run-requires : goal.push_run-requires
+push_run-requires c = c.loop-told.invariant.scanned.at
 
--- by whether that place is ruled out
-ready : (c : After-advance) → IsReady c
-ready c =
-    let n = dimension_of c.args.vertices.now in
-    let points = c.args.vertices.now in
-    let s : AreSolid n points = record {
-      coordinates = c.start-walk.ensures.least;
-      dimension = c.requires.vertices.sized.are_points.one_dimension;
-      solid = c.requires.vertices.solid;
-    } in
-    let facets = c.args.facets.now in
-    let low = c.loop-kept.walk.low.items in
-    let high = c.loop-kept.walk.high.items in
-    let x = c.loop-kept.walk.position.items in
-    let low' = c.match-ruled_out.walk.low.items in
-    let high' = c.match-ruled_out.walk.high.items in
-    let x' = c.match-ruled_out.walk.position.items in
-    let i = c.loop-kept.invariant in
-    let found = c.loop-kept.points.items in
-    elim c.match-ruled_out.branch [
-      | in-Some w ↦
-          let low_is = ap (λ v. v.low.items) w.walk-is ∙ w.pass_over.ensures.low in
-          let high_is = ap (λ v. v.high.items) w.walk-is ∙ w.pass_over.ensures.high in
-          let x_is = ap (λ v. v.position.items) w.walk-is in
-          let over = passed n points s 1 low high facets c.requires.facets x w.pass_over.new.self.position.items found w.in-Some.kept i.at
-          w.in-Some.ensures.some
-          w.pass_over.ensures.passes in
-          record {
-            past = past_moved n points 1 low high w.pass_over.new.self.position.items low' high' x' found c.match-ruled_out.points.items
-                low_is high_is x_is
-                (ap (λ vs. vs.items) w.points-is) over;
-            later = rw x_is w.pass_over.ensures.passes.later;
-            low_is = low_is;
-            high_is = high_is;
-            few = rw (ap (λ vs. vs.items) w.points-is) i.few;
-          }
-      | in_default+then-len-lt-MOST_POINTS+in_ok-push w ↦
-          let low_is = ap (λ v. v.low.items) w.walk-is in
-          let high_is = ap (λ v. v.high.items) w.walk-is in
-          let x_is = ap (λ v. v.position.items) w.walk-is in
-          let one = kept n points s 1 low high facets c.requires.facets x found i.at w.in_default.ensures.none in
-          let points_are = ap (λ vs. vs.items) w.points-is ∙ w.in_ok-push.ensures.items ∙ ap (λ (p : List ℤ). found ++ p ∷ [])
-          (w.point_at.ensures ∙ w.position.ensures) in
-          let longer = ap length points_are ∙ length-append found (x ∷ []) in
-          record {
-            past = past_moved n points 1 low high x low' high' x' (found ++ x ∷ []) c.match-ruled_out.points.items low_is high_is x_is
-                points_are one;
-            later = inr (sym x_is);
-            low_is = low_is;
-            high_is = high_is;
-            few = omega (arith, longer);
-          }
-    ]
+pub advance-requires : goal.advance-requires
+advance-requires c = c.loop-told.invariant.scanned.at
+
+-- the points after the run
+pushed : (c : After-advance) → c.push_run.new.points.items ≡ c.loop-told.points.items ++ run_points c.loop-told.walk
+pushed c = c.in_ok-push_run.ensures
 
 pub returns-then-not-advance-clause-points : goal.returns-then-not-advance-clause-points
 returns-then-not-advance-clause-points c =
-    let vertices = c.args.vertices.now in
-    let n = dimension_of vertices in
-    let low = c.match-ruled_out.walk.low.items in
-    let high = c.match-ruled_out.walk.high.items in
-    let x = c.match-ruled_out.walk.position.items in
-    let y = c.advance.new.self.position.items in
-    let known = ready (goal.at.returns-then-not-advance-clause-points c).After-advance in
-    let s = solid (goal.at.returns-then-not-advance-clause-points c).After-start-walk in
-    let step : Follows (IsInBox low high) x y false = subst (Follows (IsInBox low high) x y) c.if-not-advance.true c.advance.ensures.step in
-    lattice_from_dilate n vertices s c.match-ruled_out.points.items
-    (finished n vertices s 1 low high x y c.match-ruled_out.points.items known.past step)
-
-pub loop-kept-smaller : goal.loop-kept-smaller
-loop-kept-smaller c =
     let n = dimension_of c.args.vertices.now in
-    let low = c.match-ruled_out.walk.low.items in
-    let high = c.match-ruled_out.walk.high.items in
-    let x = c.match-ruled_out.walk.position.items in
-    let y = c.advance.new.self.position.items in
-    let known = ready (goal.at.loop-kept-smaller c).After-advance in
-    let step : IsNext (IsInBox low high) x y = subst (Follows (IsInBox low high) x y) c.if-not-advance.false c.advance.ensures.step in
-    fewer_moved n c.args.vertices.now 1 c.loop-kept.walk.low.items c.loop-kept.walk.high.items c.loop-kept.walk.position.items low high x
-    c.advance.new.self.low.items c.advance.new.self.high.items y known.past.corners known.later step known.low_is known.high_is
-    c.advance.ensures.low
-    c.advance.ensures.high
+    let points = c.args.vertices.now in
+    let w = c.loop-told.walk in
+    let at = (goal.at.returns-then-not-advance-clause-points c).After-advance in
+    let none = subst (Follows (IsInRegion w.region) (last_point w) (first_point c.advance.new.self)) c.if-not-advance.true c.advance.ensures.next in
+    lattice_from_dilate n points (solid (goal.at.returns-then-not-advance-clause-points c).In_ok-region) c.push_run.new.points.items
+    (subst (AreDilatePoints n points 1) (sym (pushed at))
+    (finished n points 1 c.args.facets.now c.requires.facets w c.loop-told.points.items c.loop-told.invariant.scanned
+    (first_point c.advance.new.self) none))
 
-pub loop-kept-preserved : goal.loop-kept-preserved
-loop-kept-preserved c =
+-- and their number
+few_more : (c : After-advance) → length c.push_run.new.points.items ≤ MOST_POINTS
+few_more c =
+    let longer = ap length (pushed c) ∙ length-append c.loop-told.points.items (run_points c.loop-told.walk) in
+    let count = c.count.ensures.points in
+    let len = c.len.ensures in
+    let few = c.loop-told.invariant.few in
+    let test = c.if-count-len.false in
+    omega arith
+
+pub returns-then-not-advance-clause-few : goal.returns-then-not-advance-clause-few
+returns-then-not-advance-clause-few c = few_more (goal.at.returns-then-not-advance-clause-few c).After-advance
+
+pub loop-told-smaller : goal.loop-told-smaller
+loop-told-smaller c =
     let n = dimension_of c.args.vertices.now in
-    let low = c.match-ruled_out.walk.low.items in
-    let high = c.match-ruled_out.walk.high.items in
-    let x = c.match-ruled_out.walk.position.items in
-    let y = c.advance.new.self.position.items in
-    let known = ready (goal.at.loop-kept-preserved c).After-advance in
-    let s = solid (goal.at.loop-kept-preserved c).After-start-walk in
-    let found = c.match-ruled_out.points.items in
-    let step : IsNext (IsInBox low high) x y = subst (Follows (IsInBox low high) x y) c.if-not-advance.false c.advance.ensures.step in
+    let w = c.loop-told.walk in
+    let next = subst (Follows (IsInRegion w.region) (last_point w) (first_point c.advance.new.self)) c.if-not-advance.false c.advance.ensures.next in
+    fewer_left n c.args.vertices.now 1 c.args.facets.now c.requires.facets w c.loop-told.points.items c.loop-told.invariant.scanned
+    c.advance.new.self c.advance.ensures.region next
+
+pub loop-told-preserved : goal.loop-told-preserved
+loop-told-preserved c =
+    let n = dimension_of c.args.vertices.now in
+    let points = c.args.vertices.now in
+    let w = c.loop-told.walk in
+    let at = (goal.at.loop-told-preserved c).After-advance in
+    let next = subst (Follows (IsInRegion w.region) (last_point w) (first_point c.advance.new.self)) c.if-not-advance.false c.advance.ensures.next in
     record {
-      at = at_moved n c.args.vertices.now 1 low high y c.advance.new.self.low.items c.advance.new.self.high.items found
-          c.advance.ensures.low c.advance.ensures.high
-          (advanced n c.args.vertices.now s 1 low high x y found known.past step);
-      few = known.few;
+      scanned = subst (IsScanned n points 1 c.args.facets.now c.advance.new.self) (sym (pushed at))
+          (advanced n points 1 c.args.facets.now c.requires.facets w c.loop-told.points.items c.loop-told.invariant.scanned c.advance.new.self
+          (c.advance.ensures.run c.if-not-advance.false) c.advance.ensures.region next);
+      few = few_more at;
     }

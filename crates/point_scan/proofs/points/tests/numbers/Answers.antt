@@ -1,4 +1,4 @@
-use Rattle.std.proofs.Common.{◌∙◌, subst, sym}
+use Rattle.std.proofs.Common.{◌∙◌}
 use Rattle.point_scan.proofs.SegmentSteps.{solid_ends, facets_of_ends}
 use Rattle.point_scan.proofs.points.tests.numbers.Goals as goal
 

@@ -1,11 +1,11 @@
 use mir.Val.{to_z, of_z}
-use Rattle.std.specs.Prelude.{List, ℤ, pos, ◌*ℤ◌, ◌≡◌, ◌<◌, ◌≤◌, ◌+◌, ◌^◌, ◌++◌, [], ◌∷◌, nat_abs}
-use Rattle.std.proofs.Common.{arith, rules, SFits, w64, length, sym, ap, ◌∙◌, length-append}
+use Rattle.std.specs.Prelude.{List, ℤ, pos, ◌*ℤ◌, ◌≡◌, ◌<◌, ◌≤◌, ◌+◌, ◌^◌, nat_abs}
+use Rattle.std.proofs.Common.{arith, rules, SFits, w64, length, ap, ◌∙◌, length-append}
 use Rattle.std.proofs.lemmas.Int.{ints, to_z-of_z}
 use Rattle.point_scan.specs.ScanSteps.{IsDilateSpan}
 use Rattle.lattice_core.specs.Dimensions.{dimension_of}
 use Rattle.point_scan.proofs.Reaches.{product_fits, spans_more}
-use Rattle.point_scan.proofs.walk.Walk.start.Goals as goal
+use Rattle.point_scan.proofs.corners.corners_of.Goals as goal
 use Rattle.lattice_core.specs.Limits.{IsSized}
 use Rattle.lattice_core.proofs.Dimension.{dimension_first}
 use Rattle.lattice_core.proofs.SizeLimits.{limit_bound}
@@ -15,8 +15,8 @@ use Rattle.lattice_theory.specs.Size.{size}
 small_size : (points : List (List ℤ)) → IsSized (dimension_of points) points → size (dimension_of points) points ≤ 2 ^ 30
 small_size points h = omega (arith, limit_bound (dimension_of points))
 
-pub overflow_mul-lowest : goal.overflow_mul-lowest
-overflow_mul-lowest c =
+pub overflow_mul-factor : goal.overflow_mul-factor
+overflow_mul-factor c =
     let factor_fits : SFits w64 c.from-factor.result = search rules in
     let low_fits : SFits w64 c.span_of-span.result.low = search rules in
     let factor : nat_abs c.from-factor.result ≤ 7 = omega (arith, ints) in
@@ -25,8 +25,8 @@ overflow_mul-lowest c =
     simp to_z-of_z (product_fits c.args.points.now (dimension_of c.args.points.now) c.loop-i.i c.from-factor.result
     c.span_of-span.result.low place (small_size c.args.points.now c.requires.points.within) factor c.span_of-span.ensures.small_low)
 
-pub overflow_mul-factor : goal.overflow_mul-factor
-overflow_mul-factor c =
+pub overflow_mul-factor-in-loop-i : goal.overflow_mul-factor-in-loop-i
+overflow_mul-factor-in-loop-i c =
     let factor_fits : SFits w64 c.from-factor.result = search rules in
     let high_fits : SFits w64 c.span_of-span.result.high = search rules in
     let factor : nat_abs c.from-factor.result ≤ 7 = omega (arith, ints) in
@@ -68,7 +68,6 @@ loop-i-preserved c =
     record {
       low_dimension = simp length-append at (ap length c.push.ensures.items) ∙ ap (λ n. n + 1) i.low_dimension;
       high_dimension = simp length-append at (ap length c.push-in-loop-i.ensures.items) ∙ ap (λ n. n + 1) i.high_dimension;
-      position = c.push-in-loop-i-2.ensures.items ∙ ap (λ (xs : List ℤ). xs ++ (low ∷ [])) i.position ∙ sym c.push.ensures.items;
       spans = rw (c.push.ensures.items, c.push-in-loop-i.ensures.items)
           (spans_more points c.args.dilate c.loop-i.i c.loop-i.low.items c.loop-i.high.items low high i.low_dimension i.high_dimension
           i.spans last);
