@@ -1,54 +1,18 @@
 -- How large facets are: each is fixed by some of the points, whose absolute sums are at most their size.
-use Rattle.std.proofs.Common.{◌≡◌, ℕ, zero, suc, ◌*◌, ◌^◌, ◌<◌, ◌≤◌, List, [], ◌∷◌, length, ℤ, pos, negsuc, ◌+ℤ◌, ◌*ℤ◌, nat_abs, ⊎_elim, refl, ap, subst, All, Contains, arith}
+use Rattle.std.proofs.Common.{◌≡◌, ℕ, zero, suc, ◌*◌, ◌^◌, ◌≤◌, List, length, ℤ, nat_abs, ap, subst, All, Contains, arith}
 use Rattle.std.specs.Prelude.{◌-◌}
-use Rattle.std.proofs.lemmas.Int.{ints}
-use Rattle.std.proofs.lemmas.Bool.{cases_lt}
 use Rattle.std.proofs.lemmas.List.Elements.{All-contains, All-weaker, All-contains_itself}
-use Rattle.lattice_theory.specs.Vector.{dot, HaveDimension}
-use Rattle.lattice_theory.specs.Affine.{Affine, value, Vanishes, IsMultiple}
+use Rattle.lattice_theory.specs.Vector.{HaveDimension}
+use Rattle.lattice_theory.specs.Affine.{Affine, Vanishes, IsMultiple}
 use Rattle.lattice_theory.specs.Size.{size, absolute_sum}
-use Rattle.lattice_theory.specs.Facet.{IsFlat, IsFacet, AreFacets}
-use Rattle.lattice_theory.proofs.Integers.{products_out, linear}
-use Rattle.lattice_theory.proofs.Members.{empty, all_from_each}
-use Rattle.lattice_theory.proofs.Divisibility.{primitive_nonzero}
-use Rattle.lattice_theory.proofs.Vectors.{nonzero_entry}
-use Rattle.facet_theory.specs.Solid.{AreSolid}
+use Rattle.lattice_theory.specs.Facet.{IsFlat, AreFacets}
 use Rattle.facet_theory.proofs.FacetPoints.{facet_by_points_lem}
 use Rattle.normal_bounds.specs.Bounds.{IsFixedBy}
 use Rattle.normal_bounds.proofs.Sizes.{all_within, point_absolute_sum_lem}
 use Rattle.normal_bounds.proofs.Normals.{normal_bound_lem}
 use Rattle.lattice_core.specs.ValueWidths.{IsWithin}
+use Rattle.hull_growth.proofs.Small.{size_positive, no_facet, solid_at}
 use Rattle.hull.specs.Laws.{FacetsBounded}
-
--- one more product with an entry 0
-zero_more : (c b d : ℤ) → nat_abs b ≤ 0 → d ≡ pos 0 → c *ℤ b +ℤ d ≡ pos 0
-zero_more c (pos zero) d h e = simp products_out (omega (arith, linear))
-zero_more c (pos (suc b)) d h e = absurd (omega (arith, ints))
-zero_more c (negsuc b) d h e = absurd (omega (arith, ints))
-
--- a vector of absolute sum 0 pairs to 0
-zero_absolute_sum : (x p : List ℤ) → absolute_sum p ≤ 0 → dot x p ≡ pos 0
-zero_absolute_sum [] p h = refl
-zero_absolute_sum (c ∷ x) [] h = refl
-zero_absolute_sum (c ∷ x) (b ∷ p) h = zero_more c b (dot x p) (omega arith) (zero_absolute_sum x p (omega arith))
-
--- points with a facet that aren't flat have a positive size: with size 0 a function with the facet's normal would vanish on them
-size_positive : (n : ℕ) (points : List (List ℤ)) → AreSolid n points → (f : Affine) → IsFacet n points f → 1 ≤ size n points
-size_positive n points s f h = ⊎_elim (λ (l : 0 < size n points). omega arith) (λ (l : size n points ≤ 0). absurd (s.solid (flat l)))
-    (cases_lt 0 (size n points))
-  where
-    at : (p : List ℤ) → size n points ≤ 0 → absolute_sum p ≤ size n points
-        → value (record { normal = f.normal; constant = pos 0 }) p ≡ pos 0
-    at p l w = let e = zero_absolute_sum f.normal p (omega arith) in omega (arith, linear)
-
-    flat : size n points ≤ 0 → IsFlat n points
-    flat l = record {
-      function = record { normal = f.normal; constant = pos 0 };
-      dimension = h.dimension;
-      nonconstant = (let (k, l, e) = nonzero_entry f.normal (primitive_nonzero f.normal h.primitive) in (k, e.nonzero));
-      vanishes = All-weaker (λ p. absolute_sum p ≤ size n points) (λ p. value (record { normal = f.normal; constant = pos 0 }) p ≡ pos 0)
-          (λ p w. at p l w) points (point_absolute_sum_lem n points s.dimension);
-    }
 
 -- what the bound's exponent is
 one_less : (k : ℕ) → k ≡ suc k - 1
@@ -86,18 +50,6 @@ facets_bounded_lem (suc k) points s f h = by (facet_by_points_lem (suc k) points
         → IsWithin (suc k) (size (suc k) points) f
     by (on, l, inside, v, det) = fixed_within k points on f s.dimension (size_positive (suc k) points s f h) l inside
         (record { dimension = h.dimension; primitive = h.primitive; vanishes = v; determined = det })
-
--- what the laws suppose, where there are coordinates
-pub solid_at : (k : ℕ) (points : List (List ℤ)) → HaveDimension (suc k) points → (IsFlat (suc k) points → ⊥) → AreSolid (suc k) points
-solid_at k points d s = record { coordinates = omega arith; dimension = d; solid = s }
-
--- a facet has coordinates
-pub no_facet : (f : Affine) (points : List (List ℤ)) → IsFacet 0 points f → ⊥
-no_facet f points h = primitive_nonzero f.normal h.primitive (without f.normal h.dimension)
-  where
-    without : (x : List ℤ) → length x ≡ 0 → All (λ a. a ≡ pos 0) x
-    without [] e = all_from_each empty
-    without (a ∷ x) e = absurd (omega arith)
 
 -- so all facets of a list are within the bound
 pub facets_within : (n : ℕ) (points : List (List ℤ)) (facets : List Affine) → HaveDimension n points → (IsFlat n points → ⊥)

@@ -18,7 +18,8 @@ use Rattle.lattice_core.specs.Limits.{size_limit_of, IsSized}
 use Rattle.hull.specs.steps.Kernels.{IsPrimitiveKernel, IsSmallKernel}
 use Rattle.hull.proofs.Kernels.{member_entries}
 use Rattle.hull.specs.steps.Search.{IsFrom, IsKernelOfPoints, IsReached, AddsFacets, IsSupporting, AddsEach}
-use Rattle.hull.proofs.Vectors.{zero_difference, same_pairings, both_vanish, vanishes_too, absolute_sum-difference, points_small, multiple_from_normals}
+use Rattle.hull_growth.proofs.Small.{points_small}
+use Rattle.hull.proofs.Vectors.{zero_difference, same_pairings, both_vanish, vanishes_too, absolute_sum-difference, multiple_from_normals}
 use Rattle.hull.proofs.AffineFunctions.{vanishes_at, opposite_value, opposite_primitive, opposite_multiple, only_member}
 
 -- a combination of members that pair to 0 with a vector pairs to 0 with it

@@ -12,3 +12,5 @@ pub mod FirstPoints
 pub mod BuilderFacts
 mod TightRows
 mod CandidatePoints
+pub mod Growing
+pub mod Choosing

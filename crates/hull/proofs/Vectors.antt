@@ -4,15 +4,14 @@ use Rattle.std.specs.Prelude.{nat_abs, get_or, ◌-◌}
 use Rattle.std.specs.Int.{w64}
 use Rattle.std.proofs.lemmas.Int.{ints, fits_signed_from_abs}
 use Rattle.std.proofs.lemmas.List.{take_all, get_or_default}
-use Rattle.std.proofs.lemmas.List.Elements.{All-weaker, All-head, All-tail}
-use Rattle.normal_bounds.proofs.Sizes.{point_absolute_sum_lem, difference_absolute_sum_lem}
-use Rattle.lattice_core.specs.Limits.{size_limit_of, IsSized}
+use Rattle.std.proofs.lemmas.List.Elements.{All-head, All-tail}
+use Rattle.normal_bounds.proofs.Sizes.{difference_absolute_sum_lem}
+use Rattle.lattice_core.specs.Limits.{size_limit_of}
 use Rattle.hull.specs.steps.Kernels.{IsPrimitiveKernel, IsSmallKernel}
-use Rattle.lattice_core.proofs.SizeLimits.{limit_bound}
 use Rattle.hull.proofs.Pivots.{take_more}
 use Rattle.lattice_theory.specs.Vector.{entry, dot, HaveDimension, IsVectorMultiple}
 use Rattle.lattice_theory.specs.Affine.{Affine, value, Vanishes, IsMultiple}
-use Rattle.lattice_theory.specs.Size.{size, absolute_sum}
+use Rattle.lattice_theory.specs.Size.{absolute_sum}
 use Rattle.lattice_theory.proofs.Integers.{products_out, linear}
 use Rattle.elimination.specs.Elimination.{Member, Annihilates}
 use Rattle.lattice_theory.proofs.Members.{Each, empty, more, each_from_all, all_from_each}
@@ -146,17 +145,6 @@ difference_more p q old new i r e h o v n =
 -- all of them
 pub difference_all : (p q x : List ℤ) (i : ℕ) → length p ≡ length q → length p ≤ i → x ≡ take i (difference p q) → x ≡ difference p q
 difference_all p q x i e h o = o ∙ take_all i (difference p q) (let l = length-difference p q e in omega arith)
-
--- each point within the size limit is small
-pub points_small : (n : ℕ) (points : List (List ℤ)) → HaveDimension n points → IsSized n points
-    → All (λ p. absolute_sum p ≤ size_limit_of n) points
-points_small n points d s = All-weaker (λ p. absolute_sum p ≤ size n points) (λ p. absolute_sum p ≤ size_limit_of n)
-    (λ p h. omega arith) points (point_absolute_sum_lem n points d)
-
--- no larger than the limit of the plane
-pub points_bound : (n : ℕ) (points : List (List ℤ)) → HaveDimension n points → IsSized n points → All (λ p. absolute_sum p ≤ 2 ^ 30) points
-points_bound n points d s = All-weaker (λ p. absolute_sum p ≤ size_limit_of n) (λ p. absolute_sum p ≤ 2 ^ 30) (λ p h.
-    let b = limit_bound n in omega arith) points (points_small n points d s)
 
 -- the differences of points and a first one
 abbrev pub from : List ℤ → List (List ℤ) → List (List ℤ)

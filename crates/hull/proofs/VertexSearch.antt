@@ -21,7 +21,8 @@ use Rattle.lattice_core.specs.ValueWidths.{FitsWidth, Serves}
 use Rattle.lattice_core.specs.declared.value_widths.Width.{Width}
 use Rattle.lattice_core.proofs.SizeLimits.{limit_bound}
 use Rattle.hull.proofs.Pivots.{take_more}
-use Rattle.hull.proofs.FacetBounds.{facets_bounded_lem, solid_at, no_facet}
+use Rattle.hull.proofs.FacetBounds.{facets_bounded_lem}
+use Rattle.hull_growth.proofs.Small.{solid_at, no_facet}
 
 -- a list with one more member contains that one and what it contained
 pub contains_more : {X : Type 0} (xs : List X) (i : ℕ) (x y : X) → i < length xs → x ≡ get_or xs i x

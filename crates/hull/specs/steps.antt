@@ -3,3 +3,5 @@ pub mod Search
 pub mod Differences
 pub mod Tight
 pub mod Candidates
+pub mod Growing
+pub mod Simplex

@@ -1,15 +1,17 @@
 //! A hull that grows point by point.
 
-ghost use Rattle.std.specs.Prelude.{◌≡◌, ◌+◌, ◌<◌, ◌≤◌, List, [], ◌∷◌, ◌++◌, length, Err, IfOk, OnOk, IfErr, OnErr};
+ghost use Rattle.std.specs.Prelude.{◌≡◌, ◌⊎◌, ◌+◌, ◌<◌, ◌≤◌, ℤ, List, [], ◌∷◌, ◌++◌, length, Err, IfOk, OnOk, IfErr, OnErr};
+ghost use Rattle.std.specs.List.{Contains};
 ghost use Rattle.lattice_core.specs.Dimensions.{dimension_of};
 ghost use Rattle.lattice_core.specs.Limits.{IsSized};
 ghost use Rattle.lattice_core.specs.declared.faults.Fault.TheVariants as Fault;
-ghost use Rattle.lattice_core.specs.PointLists.{ArePoints, AreSolidPoints};
+ghost use Rattle.lattice_core.specs.PointLists.{ArePoints, AreSizedPoints, AreSolidPoints};
 ghost use Rattle.lattice_core.specs.Stops.{Stops};
 ghost use Rattle.hull.specs.Faults.{IsSizeRefusal, IsStartRefusal};
-ghost use Rattle.hull.specs.Built.{HasFacets};
+ghost use Rattle.hull_growth.specs.Grown.{HasFacets};
 
 use crate::facets::{all_facets, sized, solid};
+use hull_growth::Growth;
 use lattice_core::{Fault, Functional, NoMemory, Point};
 use std::alloc::Global;
 use std::marker::Model;
@@ -18,9 +20,8 @@ use std::marker::Model;
 /// lists. This project's own.
 #[derive(Drop)]
 pub struct HullBuilder {
-    alloc: Global,
     points: Vec<Point>,
-    facets: Vec<Functional>,
+    growth: Growth,
 }
 
 impl Model for HullBuilder {
@@ -28,9 +29,9 @@ impl Model for HullBuilder {
 
     ghost Value = { Built };
 
-    ghost view = { λ b. record { points = b.points.items; facets = b.facets.items } };
+    ghost view = { λ b. record { points = b.points.items; facets = b.growth.facets } };
 
-    ghost invariant = { λ b. IsBuilt b.points.items b.facets.items };
+    ghost invariant = { λ b. IsBuilt b.points.items b.growth };
 }
 
 /// The same points again.
@@ -42,6 +43,23 @@ fn copied_points(alloc: Global, points: &[Point]) -> Result<Vec<Point>, NoMemory
         copies.push(p.copied())?;
     }
     Ok(copies)
+}
+
+/// Grows the hull of some of the points by the last one, where all are within the size limit.
+fn grow_within(growth: &mut Growth, points: &[Point], p: &Point) -> Result<(), Fault>
+    requires points { ArePoints points.now }
+    requires dimension { dimension_of growth.old.corners ≡ dimension_of points.now }
+    requires among { (c : List ℤ) → Contains growth.old.corners c → Contains points.now c }
+    requires member { Contains points.now p.now }
+    ensures sized { OnOk result (AreSizedPoints points.now) }
+    ensures facets { OnOk result (HasFacets (dimension_of points.now) (growth.old.corners ++ (p.now ∷ [])) growth.new.facets) }
+    ensures corners { OnOk result ((growth.new ≡ growth.old) ⊎ (growth.new.corners ≡ growth.old.corners ++ (p.now ∷ []))) }
+    ensures unchanged { OnErr result (growth.new ≡ growth.old) }
+    ensures refused { IfErr result (Stops (IsSizeRefusal (dimension_of points.now) points.now)) }
+{
+    sized(points)?;
+    growth.grow(p)?;
+    Ok(())
 }
 
 impl HullBuilder {
@@ -59,12 +77,9 @@ impl HullBuilder {
     {
         solid(points)?;
         let facets = all_facets(alloc, points)?;
+        let growth = Growth::new(alloc, copied_points(alloc, points)?, facets)?;
         let points = copied_points(alloc, points)?;
-        Ok(HullBuilder {
-            alloc,
-            points,
-            facets,
-        })
+        Ok(HullBuilder { points, growth })
     }
 
     /// Adds a point of the same dimension: afterwards the facets are those of all points so far. It is refused exactly where the size of all
@@ -78,16 +93,12 @@ impl HullBuilder {
         ensures unchanged { OnErr result (self.new ≡ self.old) }
         ensures refused { IfErr result (Stops (IsSizeRefusal (dimension_of self.old.points) (self.old.points ++ (p.now ∷ [])))) }
     {
-        let mut points = copied_points(self.alloc, &self.points)?;
-        points.push(p.copied())?;
-        sized(&points)?;
-        let facets = all_facets(self.alloc, &points)?;
-        *self = HullBuilder {
-            alloc: self.alloc,
-            points,
-            facets,
-        };
-        Ok(())
+        self.points.push(p.copied())?;
+        let grown = grow_within(&mut self.growth, &self.points, p);
+        if grown.is_err() {
+            self.points.pop();
+        }
+        grown
     }
 
     /// The facets of all points so far, each once; their order is left open. The points aren't flat, and are within the size limit of their
@@ -97,6 +108,6 @@ impl HullBuilder {
         ensures facets { HasFacets (dimension_of self.now.points) self.now.points result.now }
         ensures solid { AreSolidPoints self.now.points }
     {
-        &self.facets
+        self.growth.facets()
     }
 }

@@ -13,24 +13,28 @@ ghost use Rattle.lattice_core.specs.ValueWidths.{IsWithin};
 ghost use Rattle.hull.specs.Faults.{IsSizeRefusal, IsStartRefusal, IsFacetsRefusal};
 
 use crate::flat::flat_function;
-use crate::kernel::kernel_of_none;
-use crate::search::add_facets_from;
+use crate::simplex::first_simplex;
+use hull_growth::{Growth, first_beyond};
 use lattice_core::{
     Fault, Functional, LimitName, MOST_FACETS, NoMemory, Point, Refusal, ascending_functions,
     size_limit, size_of,
 };
 use std::alloc::Global;
 
-/// All facets of points within the size limit that aren't flat, each once, ordered by normal and then by constant.
+/// All facets of points within the size limit that aren't flat, each once, ordered by normal and then by constant. The hull grows from a first
+/// simplex: for the first facet beyond which there are points by the farthest of these. A facet beyond which there is none is done.
 pub(crate) fn all_facets(alloc: Global, points: &[Point]) -> Result<Vec<Functional>, NoMemory>
     requires points { AreSolidPoints points.now }
     ensures { IfOk result (λ fs. AreFacets (dimension_of points.now) points.now fs.items) }
 {
-    let mut facets = Vec::new(alloc);
-    let kernel = kernel_of_none(points[0].dim());
-    for i in 0..points.len() {
-        add_facets_from(points, &points[i], i + 1, kernel.as_slice(), &mut facets)?;
+    let (corners, functions) = first_simplex(alloc, points)?;
+    let mut growth = Growth::new(alloc, corners, functions)?;
+    let mut done = 0;
+    while let Some(beyond) = first_beyond(growth.facets(), points, done) {
+        growth.grow(&points[beyond.point])?;
+        done = beyond.facet;
     }
+    let mut facets = growth.into_facets();
     ascending_functions(&mut facets);
     Ok(facets)
 }

@@ -15,6 +15,7 @@ mod member;
 mod planes;
 mod reduction;
 mod search;
+mod simplex;
 mod tight_rows;
 mod vertices;
 

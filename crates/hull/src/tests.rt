@@ -196,6 +196,30 @@ fn counts_cubes_and_cross_polytopes(rt: HostRuntime) -> Result<(), Fail> {
 }
 
 #[test]
+fn counts_a_cube_in_dimension_four(rt: HostRuntime) -> Result<(), Fail> {
+    let cube: [&[i64]; 16] = [
+        &[0, 0, 0, 0],
+        &[0, 0, 0, 1],
+        &[0, 0, 1, 0],
+        &[0, 0, 1, 1],
+        &[0, 1, 0, 0],
+        &[0, 1, 0, 1],
+        &[0, 1, 1, 0],
+        &[0, 1, 1, 1],
+        &[1, 0, 0, 0],
+        &[1, 0, 0, 1],
+        &[1, 0, 1, 0],
+        &[1, 0, 1, 1],
+        &[1, 1, 0, 0],
+        &[1, 1, 0, 1],
+        &[1, 1, 1, 0],
+        &[1, 1, 1, 1],
+    ];
+    assert_eq!(rt; counts(rt.alloc(), 4, &cube)?, (8, 16));
+    Ok(())
+}
+
+#[test]
 fn counts_simplices(rt: HostRuntime) -> Result<(), Fail> {
     let simplex: [&[i64]; 7] = [
         &[1, 0, 0, 0, 0],

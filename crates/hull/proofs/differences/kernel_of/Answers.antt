@@ -7,7 +7,8 @@ use Rattle.lattice_core.specs.Dimensions.{dimension_of}
 use Rattle.hull.specs.steps.Differences.{difference, differences}
 use Rattle.hull.specs.steps.Kernels.{IsPrimitiveKernel, IsSmallKernel}
 use Rattle.hull.proofs.Kernels.{members_entries}
-use Rattle.hull.proofs.Vectors.{length-difference, absolute_sum-difference, points_small, points_bound, others_of, others_all, others_length, differences_are, small_kernel, next_kernel, first_length, from}
+use Rattle.hull_growth.proofs.Small.{points_small, points_bound}
+use Rattle.hull.proofs.Vectors.{length-difference, absolute_sum-difference, others_of, others_all, others_length, differences_are, small_kernel, next_kernel, first_length, from}
 use Rattle.hull.proofs.differences.kernel_of.Goals as goal
 use Rattle.hull.proofs.differences.kernel_of.Goals.{After-dim, After-as_slice-in-loop-p, After-loop-p}
 

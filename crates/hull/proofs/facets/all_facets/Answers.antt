@@ -1,45 +1,108 @@
-use Rattle.std.proofs.Common.{◌≡◌, [], length, take, ◌∙◌, ap, arith}
+use Rattle.std.proofs.Common.{rules, ◌≡◌, ◌<◌, length, sym, ◌∙◌, subst, Contains}
+use Rattle.std.specs.List.{AllWithin}
+use Rattle.std.proofs.lemmas.List.Elements.{All-contains}
+use Rattle.lattice_theory.specs.Affine.{IsNonnegative}
 use Rattle.lattice_core.specs.Dimensions.{dimension_of}
-use Rattle.hull.specs.steps.Kernels.{IsPrimitiveKernel}
-use Rattle.facet_theory.specs.Solid.{AreSolid}
-use Rattle.hull.proofs.FirstPoints.{IsMet, met_none, met_more, met_all, found_dimension}
+use Rattle.hull_growth.specs.Beyond.{IsFirstBeyond}
+use Rattle.hull_growth.specs.Grown.{HasFacets}
+use Rattle.hull_growth.proofs.Small.{points_bound, facets_constants}
+use Rattle.hull.proofs.Growing.{beyond_within, beyond_new, beyond_behind, facets_match, facets_dimension_of, turn_within, growing_more, growing_facets, others_less, facets_listed}
 use Rattle.hull.proofs.facets.all_facets.Goals as goal
-use Rattle.lattice_core.proofs.Dimension.{dimension_first}
+use Rattle.hull.proofs.facets.all_facets.Goals.{After-facets, After-index-points-beyond}
 
-pub loop-i-init : goal.loop-i-init
-loop-i-init c = rw c.new-facets.ensures.items (met_none (dimension_of c.args.points.now) c.args.points.now)
+pub first_beyond-requires-clause-dimension : goal.first_beyond-requires-clause-dimension
+first_beyond-requires-clause-dimension c = facets_match (dimension_of c.args.points.now) c.args.points.now c.loop-beyond.growth.corners
+    c.facets.result.now c.requires.points.sized.are_points.one_dimension
+    (subst (λ n. HasFacets n c.loop-beyond.growth.corners c.facets.result.now) c.loop-beyond.invariant.dimension c.facets.ensures.facets)
+
+pub first_beyond-requires-clause-small : goal.first_beyond-requires-clause-small
+first_beyond-requires-clause-small c = points_bound (dimension_of c.args.points.now) c.args.points.now
+    c.requires.points.sized.are_points.one_dimension c.requires.points.sized.within
+
+pub first_beyond-requires-clause-constants : goal.first_beyond-requires-clause-constants
+first_beyond-requires-clause-constants c =
+    let corners = c.loop-beyond.growth.corners in
+    let solid = c.facets.ensures.solid in
+    facets_constants (dimension_of corners) corners c.facets.result.now solid.sized.are_points.one_dimension solid.solid solid.sized.within
+    c.facets.ensures.facets.members
+
+pub offset_bounds-points-beyond : goal.offset_bounds-points-beyond
+offset_bounds-points-beyond c =
+    let l : c.in-Some.beyond.point < length c.args.points.now = beyond_within c.args.points.now c.facets.result.now c.loop-beyond.done
+    c.in-Some.beyond.facet c.in-Some.beyond.point c.in-Some.ensures in
+    search rules
+
+pub bounds-points-beyond : goal.bounds-points-beyond
+bounds-points-beyond c = beyond_within c.args.points.now c.facets.result.now c.loop-beyond.done c.in-Some.beyond.facet
+    c.in-Some.beyond.point c.in-Some.ensures
+
+-- the point of this turn is one of the points
+member : (c : After-index-points-beyond) → Contains c.args.points.now c.index-points-beyond.result
+member c = (
+  c.in-Some.beyond.point,
+  beyond_within c.args.points.now c.facets.result.now c.loop-beyond.done c.in-Some.beyond.facet c.in-Some.beyond.point c.in-Some.ensures,
+  sym c.index-points-beyond.is,
+)
+
+-- its dimension
+same : (c : After-index-points-beyond) → length c.index-points-beyond.result ≡ dimension_of c.args.points.now
+same c = All-contains (λ p. length p ≡ dimension_of c.args.points.now) c.args.points.now c.index-points-beyond.result
+    c.requires.points.sized.are_points.one_dimension (member c)
+
+-- it lies beyond the first such facet
+first : (c : After-index-points-beyond) → IsFirstBeyond c.loop-beyond.growth.facets c.args.points.now c.loop-beyond.done
+    c.in-Some.beyond.facet c.in-Some.beyond.point
+first c = subst (λ fs. IsFirstBeyond fs c.args.points.now c.loop-beyond.done c.in-Some.beyond.facet c.in-Some.beyond.point)
+    c.facets.ensures.value c.in-Some.ensures
+
+pub grow-requires-clause-dimension : goal.grow-requires-clause-dimension
+grow-requires-clause-dimension c = same c ∙ sym c.loop-beyond.invariant.dimension
+
+pub grow-requires-clause-within : goal.grow-requires-clause-within
+grow-requires-clause-within c = turn_within c.args.points.now c.loop-beyond.growth.corners c.loop-beyond.growth.facets c.loop-beyond.done
+    c.index-points-beyond.result c.requires.points.sized c.loop-beyond.invariant (member c) (same c)
+
+pub loop-beyond-smaller : goal.loop-beyond-smaller
+loop-beyond-smaller c =
+    let at = (goal.at.loop-beyond-smaller c).After-index-points-beyond in
+    let p = c.index-points-beyond.result in
+    let b = first at in
+    let f = beyond_behind c.args.points.now c.loop-beyond.growth.facets c.loop-beyond.done c.in-Some.beyond.facet c.in-Some.beyond.point p b
+    c.index-points-beyond.is in
+    others_less c.loop-beyond.growth.corners c.grow.new.self.corners c.args.points.now p (member at)
+    (beyond_new (dimension_of c.loop-beyond.growth.corners) c.loop-beyond.growth.corners c.args.points.now c.loop-beyond.growth.facets
+    c.loop-beyond.done c.in-Some.beyond.facet c.in-Some.beyond.point p
+    (subst (HasFacets (dimension_of c.loop-beyond.growth.corners) c.loop-beyond.growth.corners) c.facets.ensures.value
+    c.facets.ensures.facets) b c.index-points-beyond.is)
+    (c.in_ok-grow.ensures.outside f.function f.member f.negative)
+
+pub loop-beyond-preserved : goal.loop-beyond-preserved
+loop-beyond-preserved c =
+    let at = (goal.at.loop-beyond-preserved c).After-index-points-beyond in
+    let p = c.index-points-beyond.result in
+    let b = first at in
+    let f = beyond_behind c.args.points.now c.loop-beyond.growth.facets c.loop-beyond.done c.in-Some.beyond.facet c.in-Some.beyond.point p b
+    c.index-points-beyond.is in
+    growing_more c.args.points.now c.loop-beyond.growth.corners c.grow.new.self.corners c.loop-beyond.growth.facets c.grow.new.self.facets
+    c.loop-beyond.done c.in-Some.beyond.facet c.in-Some.beyond.point p c.loop-beyond.invariant b (member at)
+    c.facets.ensures.solid.sized.are_points.some (c.in_ok-grow.ensures.outside f.function f.member f.negative) c.in_ok-grow.ensures.places
 
 pub ascending_functions-requires : goal.ascending_functions-requires
-ascending_functions-requires c =
-    let n = dimension_of c.args.points.now in (
-      n,
-      found_dimension n c.args.points.now (IsMet n c.args.points.now (take c.loop-i.i c.args.points.now)) c.loop-i.facets.items
-          c.loop-i.invariant,
-    )
-
-pub loop-i-preserved : goal.loop-i-preserved
-loop-i-preserved c =
-    let points = c.args.points.now in
-    let n = dimension_of points in
-    let p = c.index-points-i.result in
-    let length_is : length p ≡ n = ap length c.index-points-i.is ∙ c.requires.points.sized.are_points.one_dimension c.loop-i.i p
-    c.loop-i-test.true in
-    let n_is : c.dim.result ≡ n = c.dim.ensures.value
-    ∙ dimension_first points c.index-points-0.result c.requires.points.sized.are_points.some c.index-points-0.is in
-    let kernel : IsPrimitiveKernel n [] c.kernel_of_none-kernel.result.items = rw n_is at c.kernel_of_none-kernel.ensures.kernel in
-    met_more n points c.loop-i.i p c.kernel_of_none-kernel.result.items c.loop-i.facets.items c.add_facets_from.new.facets.items
-    c.loop-i-test.true c.index-points-i.is kernel
-    c.loop-i.invariant (rw (length_is, c.as_slice.ensures.value) at c.in_ok-add_facets_from.ensures)
+ascending_functions-requires c = (
+  dimension_of c.loop-beyond.growth.corners,
+  facets_dimension_of (dimension_of c.loop-beyond.growth.corners) c.loop-beyond.growth.corners c.into_facets-facets.result.items
+      (subst (HasFacets (dimension_of c.loop-beyond.growth.corners) c.loop-beyond.growth.corners)
+      (c.facets.ensures.value ∙ sym c.into_facets-facets.ensures) c.facets.ensures.facets),
+)
 
 pub returns : goal.returns
 returns c =
+    let corners = c.loop-beyond.growth.corners in
+    let fs = c.loop-beyond.growth.facets in
     let n = dimension_of c.args.points.now in
-    let n_is : c.dim.result ≡ n = c.dim.ensures.value
-    ∙ dimension_first c.args.points.now c.index-points-0.result c.requires.points.sized.are_points.some c.index-points-0.is in
-    let solid : AreSolid n c.args.points.now = record {
-      coordinates = omega (arith, n_is, c.dim.ensures.least);
-      dimension = c.requires.points.sized.are_points.one_dimension;
-      solid = c.requires.points.solid;
-    } in
-    met_all n c.args.points.now c.loop-i.i c.loop-i.facets.items c.ascending_functions.new.functions.items solid c.loop-i-test.false
-    c.loop-i.invariant c.ascending_functions.ensures.ascends c.ascending_functions.ensures.members
+    facets_listed n c.args.points.now c.into_facets-facets.result.items c.ascending_functions.new.functions.items
+    (subst (HasFacets n c.args.points.now) (sym c.into_facets-facets.ensures)
+    (growing_facets c.args.points.now corners fs c.loop-beyond.done c.facets.ensures.solid c.loop-beyond.invariant
+    (subst (HasFacets (dimension_of corners) corners) c.facets.ensures.value c.facets.ensures.facets)
+    (subst (λ us. AllWithin (IsNonnegative c.args.points.now) us c.loop-beyond.done (length us)) c.facets.ensures.value
+    c.in_default.ensures))) c.ascending_functions.ensures.ascends c.ascending_functions.ensures.members

@@ -1,9 +1,9 @@
-use Rattle.std.proofs.Common.{take, []}
-use Rattle.lattice_core.specs.Dimensions.{dimension_of}
-use Rattle.hull.specs.steps.Search.{AddsFacets}
-use Rattle.hull.proofs.FirstPoints.{IsMet}
+use Rattle.std.proofs.Common.{length}
+use Rattle.hull.specs.steps.Growing.{IsGrowing, others_than}
 use Rattle.hull.proofs.facets.all_facets.Given as goal
 
-abbrev pub invariant-loop-i : goal.invariant-loop-i
-invariant-loop-i l = AddsFacets (dimension_of l.points) l.points (IsMet (dimension_of l.points) l.points (take l.i l.points))
-    [] l.facets.items
+abbrev pub invariant-loop-beyond : goal.invariant-loop-beyond
+invariant-loop-beyond l = IsGrowing l.points l.growth.corners l.growth.facets l.done
+
+abbrev pub decreases-loop-beyond : goal.decreases-loop-beyond
+decreases-loop-beyond l = length (others_than l.growth.corners l.points)

@@ -6,7 +6,7 @@ use Rattle.lattice_theory.specs.Size.{absolute_sum}
 use Rattle.lattice_core.specs.Dimensions.{dimension_of}
 use Rattle.hull.specs.steps.Differences.{differences}
 use Rattle.hull.specs.steps.Kernels.{IsPrimitiveKernel}
-use Rattle.hull.proofs.Vectors.{points_bound}
+use Rattle.hull_growth.proofs.Small.{points_bound}
 use Rattle.hull.proofs.AffineFunctions.{none_not_flat, first_flat, no_member, first_entries}
 use Rattle.hull.proofs.flat.flat_function.Goals as goal
 

@@ -10,7 +10,7 @@ use Rattle.lattice_core.specs.Dimensions.{dimension_of}
 use Rattle.hull.specs.Hyperplanes.{StartsPositive}
 use Rattle.hull.specs.steps.Differences.{differences}
 use Rattle.hull.specs.steps.Kernels.{IsPrimitiveKernel}
-use Rattle.hull.proofs.Vectors.{points_bound}
+use Rattle.hull_growth.proofs.Small.{points_bound}
 use Rattle.hull.proofs.AffineFunctions.{two_functions, single_fixed, not_several, opposite_fixed, opposite_starts, only_member, first_entries}
 use Rattle.hull.proofs.planes.hyperplane.Goals as goal
 use Rattle.hull.proofs.planes.hyperplane.Goals.{After-function_at-function, After-as_slice-members}

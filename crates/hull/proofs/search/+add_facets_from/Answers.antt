@@ -8,7 +8,8 @@ use Rattle.elimination.specs.Elimination.{Member}
 use Rattle.hull.specs.steps.Differences.{difference}
 use Rattle.hull.specs.steps.Kernels.{IsPrimitiveKernel, IsSmallKernel}
 use Rattle.hull.specs.steps.Search.{IsKernelOfPoints, IsReached, AddsFacets}
-use Rattle.hull.proofs.Vectors.{points_bound, points_small, length-difference, absolute_sum-difference}
+use Rattle.hull_growth.proofs.Small.{points_bound, points_small}
+use Rattle.hull.proofs.Vectors.{length-difference, absolute_sum-difference}
 use Rattle.hull.proofs.Finding.{HasAdded, small_of_points, kernel_of_points_next, added_same, added_more, added_all}
 use Rattle.hull.proofs.search.+add_facets_from.Goals as goal
 use Rattle.hull.proofs.search.+add_facets_from.Goals.{After-as_slice, in-Some+in_ok-add_facets_from, in_default}

@@ -5,7 +5,7 @@ use Rattle.std.proofs.lemmas.List.Elements.{All-contains, All-weaker}
 use Rattle.lattice_theory.specs.Vector.{dot}
 use Rattle.lattice_theory.specs.Size.{absolute_sum}
 use Rattle.lattice_theory.proofs.Vectors.{length-scaled}
-use Rattle.hull.proofs.Vectors.{points_bound}
+use Rattle.hull_growth.proofs.Small.{points_bound}
 use Rattle.hull.proofs.Finding.{leaf_adds, leaf_entries}
 use Rattle.hull.proofs.search.add_both_sides.Goals as goal
 use Rattle.hull.proofs.search.add_both_sides.Goals.{After-vector, After-function_at-function}

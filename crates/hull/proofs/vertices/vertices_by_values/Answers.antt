@@ -4,7 +4,7 @@ use Rattle.std.proofs.lemmas.List.{take_all}
 use Rattle.std.proofs.lemmas.List.Elements.{All-contains}
 use Rattle.lattice_theory.specs.Size.{absolute_sum}
 use Rattle.lattice_core.specs.Dimensions.{dimension_of}
-use Rattle.hull.proofs.Vectors.{points_bound}
+use Rattle.hull_growth.proofs.Small.{points_bound}
 use Rattle.hull.proofs.VertexSearch.{facets_constants, vertex_alone, turn_added, turn_kept}
 use Rattle.hull.specs.steps.Tight.{HasVertices}
 use Rattle.hull.proofs.vertices.vertices_by_values.Goals as goal

@@ -1,0 +1,17 @@
+-- The hull that grows until no point lies beyond a facet. This project's own.
+use Rattle.std.specs.Prelude.{◌≡◌, ℕ, List, [], ◌∷◌, ℤ}
+use Rattle.std.specs.List.{AllWithin, Contains}
+use Rattle.lattice_theory.specs.Vector.{others}
+use Rattle.lattice_theory.specs.Affine.{Affine, IsNonnegative}
+use Rattle.lattice_core.specs.Dimensions.{dimension_of}
+
+-- the corners are some of the points, and no point lies beyond one of the first facets, those that are done
+pub record IsGrowing (points corners : List (List ℤ)) (facets : List Affine) (done : ℕ) : Type 0 where
+  pub dimension : dimension_of corners ≡ dimension_of points
+  pub among : (c : List ℤ) → Contains corners c → Contains points c
+  pub nonnegative : AllWithin (IsNonnegative points) facets 0 done
+
+-- the points other than the corners
+abbrev pub others_than : List (List ℤ) → List (List ℤ) → List (List ℤ)
+others_than [] points = points
+others_than (c ∷ corners) points = others_than corners (others points c)
