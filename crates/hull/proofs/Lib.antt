@@ -5,12 +5,18 @@ pub mod Steps
 pub mod Kernels
 pub mod Pivots
 pub mod AffineFunctions
-pub mod Finding
 pub mod FacetBounds
 pub mod VertexSearch
-pub mod FirstPoints
 pub mod BuilderFacts
 mod TightRows
 mod CandidatePoints
 pub mod Growing
-pub mod Choosing
+mod SimplexFacets
+mod SimplexExchange
+mod SimplexSizes
+mod SimplexAxes
+mod SimplexTurns
+mod Made
+mod UnitSimplex
+mod UnitSimplexSteps
+mod SimplexLoop

@@ -2,8 +2,8 @@
 
 ghost use Rattle.std.specs.Prelude.{◌≡◌, ◌↔◌, ◌^◌, ◌<◌, ◌≤◌, length, pos, negsuc, neg_ℤ, nat_abs, IsTrue};
 ghost use Rattle.std.specs.List.{All};
-ghost use Rattle.lattice_theory.specs.Vector.{dot, scaled, HaveDimension};
-ghost use Rattle.lattice_theory.specs.Affine.{value, IsNonnegative};
+ghost use Rattle.lattice_theory.specs.Vector.{dot, scaled};
+ghost use Rattle.lattice_theory.specs.Affine.{value};
 ghost use Rattle.lattice_theory.specs.Size.{absolute_sum};
 ghost use Rattle.hull.specs.Hyperplanes.{StartsPositive};
 
@@ -50,14 +50,4 @@ pub(crate) fn starts_positive(normal: &[i64]) -> bool
         }
     }
     false
-}
-
-/// Whether no point lies on the function's negative side.
-pub(crate) fn is_nonnegative_on(points: &[Point], f: &Functional) -> bool
-    requires same { HaveDimension (length f.now.normal) points.now }
-    requires small { All (λ p. absolute_sum p ≤ 2 ^ 30) points.now }
-    requires constant { nat_abs f.now.constant ≤ 2 ^ 100 }
-    ensures { IsTrue result ↔ IsNonnegative points.now f.now }
-{
-    points.iter().all(|p| f.at(p) >= 0)
 }

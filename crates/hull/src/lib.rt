@@ -14,7 +14,6 @@ mod kernel;
 mod member;
 mod planes;
 mod reduction;
-mod search;
 mod simplex;
 mod tight_rows;
 mod vertices;

@@ -69,29 +69,26 @@ module _ (n : ℕ) (points : List (List ℤ)) (p : List ℤ) (long : length p �
   pair_parts x i = parts_zero c.combination.whole c.combination.left c.combination.right (value f x) (value g x) (value h x)
       (pair_value x) c.combination.positive (nonnegative_at points f left.nonnegative i) (nonnegative_at points g right.nonnegative i)
 
--- there is one where the facets have opposite signs
-module _ (n : ℕ) (points : List (List ℤ)) (p : List ℤ) (solid : AreSolid n points) (long : length p ≡ n) (f g : Affine)
-    (left : IsFacet n points f)
-    (right : IsFacet n points g) (before : pos 0 <ℤ value f p) (behind : value g p <ℤ pos 0) where
-  -- -g(p) f + f(p) g
+-- two functions of which positive multiples cancel out at p have a combination there, where at some point the one is positive and the other
+-- isn't negative
+module _ (n : ℕ) (p : List ℤ) (long : length p ≡ n) (f g : Affine) (left : length f.normal ≡ n) (right : length g.normal ≡ n) (a b : ℤ)
+    (first : pos 0 <ℤ a) (second : pos 0 <ℤ b) (cancels : a *ℤ value f p +ℤ b *ℤ value g p ≡ pos 0) (x : List ℤ)
+    (before : pos 0 <ℤ value f x) (behind : pos 0 ≤ℤ value g x) where
+  -- a f + b g
   abbrev cross : Affine
-  cross = mixed (neg_ℤ (value g p)) f (value f p) g
-
-  minus_positive : pos 0 <ℤ neg_ℤ (value g p)
-  minus_positive = omega (arith, linear)
+  cross = mixed a f b g
 
   cross_at : value cross p ≡ pos 0
-  cross_at = value-mixed (neg_ℤ (value g p)) f (value f p) g p ∙ cancels (value f p) (value g p)
-    where
-      cancels : (a b : ℤ) → neg_ℤ b *ℤ a +ℤ a *ℤ b ≡ pos 0
-      cancels a b = simp products_out (omega (arith, linear))
+  cross_at = value-mixed a f b g p ∙ cancels
 
-  -- it isn't constant, since it is 0 at p and positive at some point
-  cross_nonconstant : All (λ a. a ≡ pos 0) cross.normal → ⊥
-  cross_nonconstant zeros = by (facet_positive n points solid f left)
+  -- it isn't constant, since it is 0 at p and positive at x
+  cross_nonconstant : All (λ c. c ≡ pos 0) cross.normal → ⊥
+  cross_nonconstant zeros = clash (value f x) (value g x) a b (product_positive a (value f x) first before)
+      (product_nonnegative b (value g x) (nonnegative_weaker second) behind)
+      (sym (value-mixed a f b g x) ∙ same (dot cross.normal p) (dot cross.normal x) cross.constant (flat p) (flat x) cross_at)
     where
-      flat : (x : List ℤ) → dot cross.normal x ≡ pos 0
-      flat x = dot-zero cross.normal x (each_from_all (λ a. a ≡ pos 0) cross.normal zeros)
+      flat : (y : List ℤ) → dot cross.normal y ≡ pos 0
+      flat y = dot-zero cross.normal y (each_from_all (λ c. c ≡ pos 0) cross.normal zeros)
 
       same : (a b c : ℤ) → a ≡ pos 0 → b ≡ pos 0 → a +ℤ c ≡ pos 0 → b +ℤ c ≡ pos 0
       same a b c e e' e'' = omega (arith, linear)
@@ -99,17 +96,9 @@ module _ (n : ℕ) (points : List (List ℤ)) (p : List ℤ) (solid : AreSolid n
       clash : (a b c d : ℤ) → pos 0 <ℤ (c *ℤ a) → pos 0 ≤ℤ (d *ℤ b) → c *ℤ a +ℤ d *ℤ b ≡ pos 0 → ⊥
       clash a b c d h k e = absurd (omega (arith, linear))
 
-      by : (x : List ℤ) × In x points × (pos 0 <ℤ value f x) → ⊥
-      by (x, i, q) = clash (value f x) (value g x) (neg_ℤ (value g p)) (value f p)
-          (product_positive (neg_ℤ (value g p)) (value f x) minus_positive q)
-          (product_nonnegative (value f p) (value g x) (nonnegative_weaker before) (nonnegative_at points g right.nonnegative i))
-          (sym (value-mixed (neg_ℤ (value g p)) f (value f p) g x)
-          ∙ same (dot cross.normal p) (dot cross.normal x) cross.constant (flat p) (flat x) cross_at)
-
   -- its primitive part is the combination's normal
-  pub pair_exists : (h : Affine) × IsCombinationAt f g p h
-  pair_exists = by (primitive_part cross.normal cross_nonconstant) (positive_is (neg_ℤ (value g p)) minus_positive)
-      (positive_is (value f p) before)
+  pub combination_exists : (h : Affine) × IsCombinationAt f g p h
+  combination_exists = by (primitive_part cross.normal cross_nonconstant) (positive_is a first) (positive_is b second)
     where
       constants : (d k c x y z t : ℤ) → t ≡ d *ℤ k → t +ℤ c ≡ pos 0 → c ≡ x *ℤ y +ℤ z → d *ℤ neg_ℤ k ≡ x *ℤ y +ℤ z
       constants d k c x y z t e e' e'' = simp products_out (omega (arith, linear))
@@ -117,13 +106,12 @@ module _ (n : ℕ) (points : List (List ℤ)) (p : List ℤ) (solid : AreSolid n
       itself : (a : ℤ) → a +ℤ neg_ℤ a ≡ pos 0
       itself a = omega (arith, linear)
 
-      by : HasPrimitivePart cross.normal → (l : ℕ) × (0 < l) × (neg_ℤ (value g p) ≡ pos l) → (r : ℕ) × (0 < r) × (value f p ≡ pos r)
+      by : HasPrimitivePart cross.normal → (l : ℕ) × (0 < l) × (a ≡ pos l) → (r : ℕ) × (0 < r) × (b ≡ pos r)
           → (h : Affine) × IsCombinationAt f g p h
       by part (l, l_positive, l_is) (r, r_positive, r_is) = (
         record { normal = part.part; constant = neg_ℤ (dot part.part p) },
         record {
-          dimension = sym (length-scaled (pos part.factor) part.part) ∙ ap length part.same
-              ∙ length-mixed n (neg_ℤ (value g p)) f (value f p) g left.dimension right.dimension ∙ sym long;
+          dimension = sym (length-scaled (pos part.factor) part.part) ∙ ap length part.same ∙ length-mixed n a f b g left right ∙ sym long;
           primitive = part.primitive;
           vanishes = itself (dot part.part p);
           combination = record {
@@ -137,25 +125,35 @@ module _ (n : ℕ) (points : List (List ℤ)) (p : List ℤ) (solid : AreSolid n
         },
       )
         where
-          entries : (i : ℕ) → pos part.factor *ℤ entry part.part i ≡ neg_ℤ (value g p) *ℤ entry f.normal i +ℤ value f p *ℤ entry g.normal i
-          entries i = sym (entry-scaled (pos part.factor) part.part i) ∙ ap (λ (v : List ℤ). entry v i) part.same
-              ∙ entry-mixed (neg_ℤ (value g p)) f (value f p) g i
+          entries : (i : ℕ) → pos part.factor *ℤ entry part.part i ≡ a *ℤ entry f.normal i +ℤ b *ℤ entry g.normal i
+          entries i = sym (entry-scaled (pos part.factor) part.part i) ∙ ap (λ (v : List ℤ). entry v i) part.same ∙ entry-mixed a f b g i
 
           normals : (i : ℕ) → pos part.factor *ℤ entry part.part i ≡ pos l *ℤ entry f.normal i +ℤ pos r *ℤ entry g.normal i
-          normals i = entries i ∙ ap (λ (z : ℤ). z *ℤ entry f.normal i +ℤ value f p *ℤ entry g.normal i) l_is
+          normals i = entries i ∙ ap (λ (z : ℤ). z *ℤ entry f.normal i +ℤ b *ℤ entry g.normal i) l_is
               ∙ ap (λ (z : ℤ). pos l *ℤ entry f.normal i +ℤ z *ℤ entry g.normal i) r_is
 
           at_p : dot cross.normal p ≡ pos part.factor *ℤ dot part.part p
           at_p = ap (λ (v : List ℤ). dot v p) (sym part.same) ∙ dot-scaled_left (pos part.factor) part.part p
 
-          whole : cross.constant ≡ neg_ℤ (value g p) *ℤ f.constant +ℤ value f p *ℤ g.constant
-          whole = constant-mixed (neg_ℤ (value g p)) f (value f p) g
+          whole : cross.constant ≡ a *ℤ f.constant +ℤ b *ℤ g.constant
+          whole = constant-mixed a f b g
 
           constant : pos part.factor *ℤ neg_ℤ (dot part.part p) ≡ pos l *ℤ f.constant +ℤ pos r *ℤ g.constant
-          constant = constants (pos part.factor) (dot part.part p) cross.constant (neg_ℤ (value g p)) f.constant (value f p *ℤ g.constant)
-              (dot cross.normal p)
-              at_p cross_at whole ∙ ap (λ (z : ℤ). z *ℤ f.constant +ℤ value f p *ℤ g.constant) l_is
+          constant = constants (pos part.factor) (dot part.part p) cross.constant a f.constant (b *ℤ g.constant) (dot cross.normal p)
+              at_p cross_at whole ∙ ap (λ (z : ℤ). z *ℤ f.constant +ℤ b *ℤ g.constant) l_is
               ∙ ap (λ (z : ℤ). pos l *ℤ f.constant +ℤ z *ℤ g.constant) r_is
+
+-- facets of opposite signs do: -g(p) f and f(p) g cancel out at p, and at some point f is positive
+pub pair_exists : (n : ℕ) (points : List (List ℤ)) (p : List ℤ) → AreSolid n points → length p ≡ n → (f g : Affine) → IsFacet n points f
+    → IsFacet n points g → pos 0 <ℤ value f p → value g p <ℤ pos 0 → (h : Affine) × IsCombinationAt f g p h
+pair_exists n points p solid long f g left right before behind = by (facet_positive n points solid f left)
+  where
+    cancels : (a b : ℤ) → neg_ℤ b *ℤ a +ℤ a *ℤ b ≡ pos 0
+    cancels a b = simp products_out (omega (arith, linear))
+
+    by : (x : List ℤ) × In x points × (pos 0 <ℤ value f x) → (h : Affine) × IsCombinationAt f g p h
+    by (x, i, q) = combination_exists n p long f g left.dimension right.dimension (neg_ℤ (value g p)) (value f p)
+        (omega (arith, linear)) before (cancels (value f p) (value g p)) x q (nonnegative_at points g right.nonnegative i)
 
 -- the law on the combination
 pub opposite_facets_combine_lem : OppositeFacetsCombine
