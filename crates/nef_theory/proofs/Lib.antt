@@ -1,0 +1,5 @@
+pub mod GrowthLists
+pub mod Agreements
+pub mod ReflexivePoints
+pub mod NefWalks
+pub mod ExampleSteps

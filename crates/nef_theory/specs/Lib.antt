@@ -1,0 +1,6 @@
+pub mod Nef
+pub mod Reflexive
+pub mod Agreement
+pub mod Walk
+pub mod Laws
+pub mod Examples
