@@ -10,7 +10,8 @@ use Rattle.palp_input.specs.declared.pieces.Piece.TheVariants.{Token, Wrong, Lin
 use Rattle.palp_input.specs.declared.pieces.Span.{Span}
 use Rattle.palp_input.specs.Lines.{AllEntries, MissingEntries, matrix_read, matrix_token}
 use Rattle.palp_input.specs.Grammar.{Nothing, pieces_item}
-use Rattle.palp_input.specs.FrontSteps.{AreGaps, HasNoItem, is_gap}
+use Rattle.palp_input.specs.OpeningSteps.{AreGaps, is_gap}
+use Rattle.palp_input.specs.Reading.{HasNoItem}
 use Rattle.palp_input.specs.declared.pieces.Piece.{Piece}
 use Rattle.palp_input.proofs.TokenRuns.{step_by}
 

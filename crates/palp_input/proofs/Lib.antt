@@ -11,7 +11,7 @@ pub mod SettledEnds
 pub mod Gaps
 pub mod Rests
 pub mod Headers
-pub mod HeldFronts
+pub mod HeldOpenings
 pub mod NextAnswers
 pub mod TakenAnswers
 pub mod Readings

@@ -1,13 +1,13 @@
 -- An item ends with a line end or with the text.
-use Rattle.std.proofs.Common.{◌≡◌, ℕ, zero, suc, ◌+◌, ◌-◌, ◌*◌, ◌<◌, ◌≤◌, inl, inr, Bool, true, false, cond, ℤ, List, [], ◌∷◌, ◌++◌, length, map, take, drop, Option, Some, None, refl, sym, ap, subst, ◌∙◌, arith, append_assoc, length-append, length-drop}
+use Rattle.std.proofs.Common.{◌≡◌, ℕ, zero, suc, ◌+◌, ◌-◌, ◌*◌, ◌≤◌, inl, inr, Bool, true, false, cond, List, [], ◌∷◌, ◌++◌, length, map, take, drop, Option, Some, None, refl, subst, ◌∙◌, arith, append_assoc, length-append, length-drop}
 use Rattle.std.specs.Prelude.{◌==◌, slice_index, slice_range}
 use Rattle.std.proofs.lemmas.Bool.Decides.{nat_tests}
 use Rattle.std.proofs.lemmas.List.{take-append-drop, length-take-le}
 use Rattle.std.proofs.Math.Seq.{get_or-append_seam}
-use Rattle.palp_input.specs.Pieces.{is_blank, is_token_byte, line_feed, join_token, pieces_of, first_line_end, line_len}
+use Rattle.palp_input.specs.Pieces.{is_blank, is_token_byte, line_feed, join_token, pieces_of, first_line_end}
 use Rattle.palp_input.specs.Numerals.{numeral_of}
 use Rattle.palp_input.specs.Lines.{LineRead, LeadingNumbers, FaultyLine, line_read, fault_at, MatrixRead, AllEntries, FaultyMatrix, MissingEntries, matrix_read, matrix_token}
-use Rattle.palp_input.specs.Systems.{PlacedSystem, SystemsRead, Summed, WrongSum, systems_read, other_length, zero_column, weighted_of}
+use Rattle.palp_input.specs.Systems.{SystemsRead, Summed, WrongSum, systems_read, other_length, zero_column, weighted_of}
 use Rattle.palp_input.specs.ItemSteps.{IsLineEnd}
 use Rattle.palp_input.specs.Grammar.{Listed, ListedPoints, ListedWeights, Next, Nothing, Given, Faulty, line_end, systems_item, matrix_item, weights_item, numbers_item, line_item, pieces_item, next_of}
 use Rattle.palp_input.specs.declared.pieces.Piece.{Piece}

@@ -9,15 +9,15 @@ use Rattle.palp_io.proofs.SourceLemmas.{Passes-none, Passes-trans}
 use Rattle.palp_io.proofs.FaultLemmas.{Rose-late}
 use Rattle.palp_input.specs.Pieces.{line_feed}
 use Rattle.palp_input.specs.Grammar.{Listed, listed, Given, Faulty, Known, next_of, most_bytes}
-use Rattle.palp_input.specs.Reading.{ReaderState, IsNextItem, IsHanded, NextMeans, AnswerMeans}
-use Rattle.palp_input.specs.FrontSteps.{HasNoItem, Seen}
+use Rattle.palp_input.specs.Reading.{ReaderState, IsNextItem, IsHanded, NextMeans, AnswerMeans, HasNoItem}
+use Rattle.palp_input.specs.OpeningSteps.{Seen}
 use Rattle.palp_input.specs.ReaderSteps.{IsHeldItem, IsHeldFault, HeldMeans, TakeMoreMeans, LastMeans}
 use Rattle.palp_input.proofs.Takes.{TakenSoFar}
 use Rattle.palp_input.specs.declared.fault.ItemFault.{ItemFault}
 use Rattle.palp_input.specs.declared.fault.NextFault.{NextFault}
 use Rattle.palp_input.specs.declared.fault.NextFault.TheVariants.{Text, TooLong, Read, NoMemory}
-use Rattle.palp_input.specs.declared.fronts.Front.{Front}
-use Rattle.palp_input.specs.declared.fronts.Front.TheVariants.{Blank}
+use Rattle.palp_input.specs.declared.openings.Opening.{Opening}
+use Rattle.palp_input.specs.declared.openings.Opening.TheVariants.{Blank}
 use Rattle.palp_input.specs.declared.item.Item.{Item}
 use Rattle.palp_input.proofs.Gaps.{gaps_no_item}
 use Rattle.palp_input.proofs.SettledItems.{EndsBefore, fault_before}
@@ -226,8 +226,8 @@ module _ (before taken now : ReaderState) (source between source_now : SourceSta
   pub looked_within : length taken.held ≤ length now.held
   looked_within = omega (arith, ap length held_now, length-append taken.held m.bytes)
 
-  pub seen_so_far : (front : Front) → Seen taken.held front → Seen (take (length taken.held) now.held) front
-  seen_so_far front seen = subst (λ (xs : List ℕ). Seen xs front)
+  pub seen_so_far : (opening : Opening) → Seen taken.held opening → Seen (take (length taken.held) now.held) opening
+  seen_so_far opening seen = subst (λ (xs : List ℕ). Seen xs opening)
       (sym (take-append_seam taken.held m.bytes) ∙ ap (take (length taken.held)) (sym held_now)) seen
 
   -- less can be taken on

@@ -15,4 +15,4 @@ pub mod LineSteps
 pub mod PieceSteps
 pub mod SystemSteps
 pub mod ItemSteps
-pub mod FrontSteps
+pub mod OpeningSteps

@@ -1,9 +1,10 @@
 -- What the fields and the steps of a reader mean, which only its code and its proofs use: what a call
 -- answers is in Reading. This project's own.
-use Rattle.std.specs.Prelude.{◌≡◌, ℕ, ◌+◌, ◌-◌, ◌<◌, ◌≤◌, ◌⊎◌, true, false, List, [], ◌++◌, length, take, drop, slice_index, Option, Some, None, Result, Ok, Err}
+use Rattle.std.specs.Prelude.{◌≡◌, ℕ, ◌+◌, ◌-◌, ◌<◌, ◌≤◌, ◌⊎◌, true, false, List, [], ◌++◌, length, take, drop, slice_index}
+use Rattle.std.specs.Prelude.{Option, Some, None, Result, Ok, Err}
 use Rattle.palp_io.specs.Source.{SourceState, HasEnded, Passes}
 use Rattle.palp_io.specs.Faults.{Rose}
-use Rattle.palp_input.specs.FrontSteps.{IsKnownFault, Seen}
+use Rattle.palp_input.specs.OpeningSteps.{IsKnownFault, Seen}
 use Rattle.palp_input.specs.declared.reader.TheConstants.{CHUNK}
 use Rattle.palp_input.specs.declared.reader.Held.{Held}
 use Rattle.palp_input.specs.declared.reader.Held.TheVariants.{Item as HeldItem, Unknown as HeldUnknown}

@@ -1,9 +1,11 @@
 -- What the calls of a reader answer. This project's own.
-use Rattle.std.specs.Prelude.{◌≡◌, ◌≢◌, ℕ, ◌+◌, ◌-◌, ◌≤◌, Bool, true, false, List, ◌++◌, length, take, drop, slice_index, Option, [], Some, None, IfSome, Result, Ok, Err}
+use Rattle.std.specs.Prelude.{◌≡◌, ◌≢◌, ℕ, ◌+◌, ◌-◌, ◌≤◌, Bool, true, false, List, ◌++◌, length, take, drop, slice_index}
+use Rattle.std.specs.Prelude.{Option, [], Some, None, IfSome, Result, Ok, Err}
 use Rattle.palp_io.specs.Source.{SourceState, HasEnded, Passes}
 use Rattle.palp_io.specs.Faults.{Rose}
 use Rattle.palp_input.specs.Pieces.{line_feed}
-use Rattle.palp_input.specs.Grammar.{Listed, listed, Nothing, Given, Faulty, NextWithin, Known, Beyond, next_within, next_of, most_bytes, line_feeds, text_fault}
+use Rattle.palp_input.specs.Grammar.{Listed, listed, Nothing, Given, Faulty, NextWithin, Known, Beyond, next_within, next_of}
+use Rattle.palp_input.specs.Grammar.{most_bytes, line_feeds, text_fault}
 use Rattle.palp_input.specs.declared.fault.ItemFault.{ItemFault}
 use Rattle.palp_input.specs.declared.fault.TextFault.{TextFault}
 use Rattle.palp_input.specs.declared.fault.NextFault.{NextFault}
@@ -71,14 +73,16 @@ pub record GivesTooLong (before now : ReaderState) (bytes : List ℕ) (source : 
   pub is_next : IsNextItem before source.left Beyond
   pub stops : now.live ≡ false
 
--- the source failed, and the next item isn't known from the bytes held and taken: there is none that has
--- its line end among them
+-- no item has its line end in the bytes
+abbrev pub HasNoItem : List ℕ → Type 0
+HasNoItem text = (item : Listed) (end : ℕ) → next_of text ≡ Given item end → slice_index text (end - 1) ≢ line_feed
+
+-- the source failed, and no item has its line end in the bytes held and taken
 pub record GivesRead (before now : ReaderState) (bytes : List ℕ) (source source_now : SourceState) : Type 0 where
   pub rose : Rose source.faults source_now.faults
   pub stops : now.live ≡ false
   pub unended : before.ended ≡ false
-  pub no_item : (item : Listed) (end : ℕ) → next_of (before.held ++ bytes) ≡ Given item end
-      → slice_index (before.held ++ bytes) (end - 1) ≢ line_feed
+  pub no_item : HasNoItem (before.held ++ bytes)
 
 -- what an answer means
 abbrev pub AnswerMeans : Result (Option Item) NextFault → ReaderState → ReaderState → List ℕ → SourceState → SourceState → Type 0

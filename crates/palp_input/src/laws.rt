@@ -1,5 +1,6 @@
 // What holds of the reading of a text.
-ghost use Rattle.palp_input.specs.Laws.{HasAllItems, GoesOn, Ends, EndsFaulty, EndsTooLong, CallsAnswer, CallsRead, CallsReadTaken, ItemsAreItems, ItemsHaveBytes, SystemsKeepNumbers, ItemsKeepNumbers};
+ghost use Rattle.palp_input.specs.Laws.{HasAllItems, GoesOn, Ends, EndsFaulty, EndsTooLong, CallsAnswer, CallsRead, CallsReadTaken};
+ghost use Rattle.palp_input.specs.Laws.{ItemsAreItems, ItemsHaveBytes, SystemsKeepNumbers, ItemsKeepNumbers};
 
 /// What the reading of a text has after its first item is the reading of the bytes behind that
 /// item's end, with bytes and lines counted on. Where there is no further item the reading ends: at

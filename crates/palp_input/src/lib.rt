@@ -5,7 +5,6 @@
 #![tactic(auto)]
 
 mod fault;
-mod fronts;
 mod grammar;
 mod item;
 mod laws;
@@ -14,6 +13,7 @@ mod lines;
 mod long_texts;
 mod matrices;
 mod numerals;
+mod openings;
 mod pieces;
 mod reader;
 mod systems;

@@ -38,6 +38,18 @@ fn looks_at_each_byte_a_few_times(rt: HostRuntime) -> Result<(), Fail> {
     Ok(())
 }
 
+// Each take ends behind the sign of an entry.
+#[test]
+fn reads_a_matrix_on_behind_a_sign(rt: HostRuntime) -> Result<(), Fail> {
+    let mut text = Vec::from_slice(rt.alloc(), b"300000  1 \n-")?;
+    for _ in 0..299_999 {
+        text.extend_from_slice(b"1\n-")?;
+    }
+    text.extend_from_slice(b"1\n")?;
+    assert_eq!(rt; read_all(rt.alloc(), &text, 3, 0)?, (1, None));
+    Ok(())
+}
+
 #[test]
 fn reads_long_numbers(rt: HostRuntime) -> Result<(), Fail> {
     let alloc = rt.alloc();

@@ -1,14 +1,14 @@
 // A reader of items.
 ghost use Rattle.std.specs.Prelude.{◌≡◌, ◌+◌, ◌*◌, ◌≤◌, ◌<◌, ◌^◌, ◌||◌, nat_lt, ◌++◌, replicate, MatchResult, [], true, false, length, take, drop};
 ghost use Rattle.palp_input.specs.Grammar.{line_feeds, column_behind, most_bytes, text_fault};
-ghost use Rattle.palp_input.specs.FrontSteps.{Seen};
+ghost use Rattle.palp_input.specs.OpeningSteps.{Seen};
 ghost use Rattle.palp_input.specs.ReaderSteps.{HeldMeans, LastMeans, TakeMoreMeans, TakeIntoMeans};
 ghost use Rattle.palp_input.specs.Reading.{IsHanded, NextMeans};
 
 use crate::fault::{ItemFault, NextFault, TextFault};
-use crate::fronts::{Front, Look, look_at};
 use crate::grammar::{Found, first_item};
 use crate::item::Item;
+use crate::openings::{Look, Opening, look_at};
 use lattice_core::NoMemory;
 use palp_io::{Source, Took};
 use std::alloc::Global;
@@ -32,7 +32,7 @@ enum Held {
     /// The next item.
     Item(Item),
     /// What the bytes begin with, where the next item isn't known from them.
-    Unknown(Front),
+    Unknown(Opening),
 }
 
 /// A reader of the items of a text. Contracts see how many bytes and lines it has passed, the bytes
@@ -101,23 +101,25 @@ impl Reader {
     /// after an item whose last line has no line end, the source has ended. After an error or `None`
     /// the reader isn't live.
     ///
-    /// It takes at most 65,536 bytes at a time, and takes on only while the next item isn't known. It
-    /// never takes more than 67,108,865 bytes in all, and no later call takes from the source once a
-    /// take has answered `End`; a source that is handed in after that has ended.
+    /// It takes at most 65,536 bytes at a time, and gives an item whose line end is among the bytes
+    /// held before it takes on; a fault is told once a line end came and a byte stands behind the
+    /// fault. It never takes more than 67,108,865 bytes in all, and no later call takes from the source
+    /// once a take has answered `End`; a source that is handed in after that has ended.
     pub fn next_item<S: Source>(&mut self, src: &mut S) -> Result<Option<Item>, NextFault>
         requires live { self.old.live ≡ true }
         requires handed { IsHanded self.old (S.state src.old) }
         ensures { NextMeans result self.old self.new (S.state src.old) (S.state src.new) }
     {
         self.live = false;
-        let mut front = Front::Blank;
+        let mut opening = Opening::Blank;
         let mut looked = 0;
         loop {
-            match self.look_on(looked, front)? {
+            match self.look_on(looked, opening)? {
                 Held::Item(item) => return Ok(Some(item)),
-                Held::Unknown(seen) => front = seen,
+                Held::Unknown(seen) => opening = seen,
             }
             if self.has_all() {
+                drop(opening);
                 return self.last_item();
             }
             looked = self.held_len();
@@ -127,20 +129,20 @@ impl Reader {
 
     /// What the bytes held tell of the next item, where so many of them were looked at before. An item
     /// that is known is passed.
-    fn look_on(&mut self, looked: usize, front: Front) -> Result<Held, NextFault>
+    fn look_on(&mut self, looked: usize, opening: Opening) -> Result<Held, NextFault>
         requires within { looked ≤ length self.old.held }
-        requires seen { Seen (take looked self.old.held) front }
+        requires seen { Seen (take looked self.old.held) opening }
         ensures { HeldMeans result self.old self.new }
     {
         let rest = &self.bytes[self.position..];
-        match look_at(self.alloc, rest, looked, front)? {
+        match look_at(self.alloc, rest, looked, opening)? {
             Look::Known(item, end) if self.passed_bytes + end <= MOST_BYTES => {
                 self.pass(end);
                 Ok(Held::Item(item))
             }
             Look::Known(_, _) => Err(NextFault::TooLong),
             Look::Faulty(fault) => Err(NextFault::Text(self.placed(fault))),
-            Look::Unknown(front) => Ok(Held::Unknown(front)),
+            Look::Unknown(opening) => Ok(Held::Unknown(opening)),
         }
     }
 
@@ -155,7 +157,7 @@ impl Reader {
     fn has_all(&self) -> bool
         ensures { result ≡ self.now.ended || nat_lt most_bytes (self.now.bytes + length self.now.held) }
     {
-        self.ended || self.passed_bytes + (self.bytes.len() - self.position) > MOST_BYTES
+        self.ended || self.passed_bytes + self.held_len() > MOST_BYTES
     }
 
     /// Takes once. The bytes that are passed give way to those that are held.

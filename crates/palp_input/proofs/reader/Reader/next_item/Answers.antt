@@ -1,7 +1,6 @@
 use Rattle.std.proofs.Common.{false, Ok, sym, ap, subst, arith}
 use Rattle.std.proofs.lemmas.Result.{err_from_is_err_and}
-use Rattle.palp_input.specs.Reading.{ReaderState}
-use Rattle.palp_input.specs.FrontSteps.{HasNoItem}
+use Rattle.palp_input.specs.Reading.{ReaderState, HasNoItem}
 use Rattle.palp_input.specs.ReaderSteps.{HeldMeans}
 use Rattle.palp_input.proofs.Takes.{TakenSoFar}
 use Rattle.palp_input.specs.declared.reader.Held.{Held}

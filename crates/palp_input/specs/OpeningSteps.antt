@@ -1,21 +1,18 @@
 -- What is seen of the bytes held while the next item isn't known from them, which only the reader's code
 -- and its proofs use: what a call answers is in Reading. This project's own.
-use Rattle.std.specs.Prelude.{◌≡◌, ◌≢◌, ℕ, ◌-◌, ◌<◌, ◌≤◌, Bool, true, ◌||◌, ◌==◌, List, ◌++◌, length, drop, slice_index}
+use Rattle.std.specs.Prelude.{◌≡◌, ℕ, ◌-◌, ◌<◌, ◌≤◌, Bool, true, ◌||◌, ◌==◌, List, ◌++◌, length, drop, slice_index}
 use Rattle.palp_input.specs.Pieces.{is_blank, line_feed, pieces_of}
 use Rattle.palp_input.specs.Lines.{matrix_read}
 use Rattle.palp_input.specs.LineSteps.{matrix_behind}
-use Rattle.palp_input.specs.Grammar.{Listed, listed, Given, Faulty, matrix_item, next_of}
+use Rattle.palp_input.specs.Grammar.{listed, Given, Faulty, matrix_item, next_of}
+use Rattle.palp_input.specs.Reading.{HasNoItem}
 use Rattle.palp_input.specs.declared.fault.ItemFault.{ItemFault}
 use Rattle.palp_input.specs.declared.item.Item.{Item}
-use Rattle.palp_input.specs.declared.fronts.Front.{Front}
-use Rattle.palp_input.specs.declared.fronts.Front.TheVariants.{Blank, Begun, Matrix}
-use Rattle.palp_input.specs.declared.fronts.Pending.{Pending}
-use Rattle.palp_input.specs.declared.fronts.Look.{Look}
-use Rattle.palp_input.specs.declared.fronts.Look.TheVariants.{Known as LookKnown, Faulty as LookFaulty, Unknown}
-
--- no item has its line end in the bytes
-abbrev pub HasNoItem : List ℕ → Type 0
-HasNoItem text = (item : Listed) (end : ℕ) → next_of text ≡ Given item end → slice_index text (end - 1) ≢ line_feed
+use Rattle.palp_input.specs.declared.openings.Opening.{Opening}
+use Rattle.palp_input.specs.declared.openings.Opening.TheVariants.{Blank, Begun, Matrix}
+use Rattle.palp_input.specs.declared.openings.Pending.{Pending}
+use Rattle.palp_input.specs.declared.openings.Look.{Look}
+use Rattle.palp_input.specs.declared.openings.Look.TheVariants.{Known as LookKnown, Faulty as LookFaulty, Unknown}
 
 abbrev pub is_gap : ℕ → Bool
 is_gap byte = is_blank byte || byte == line_feed
@@ -34,15 +31,15 @@ pub record MatrixSoFar (front : List ℕ) (pending : Pending) : Type 0 where
       (pieces_of pending.place (drop pending.place (front ++ more)))))
 
 -- what is told of the bytes
-abbrev pub FrontMeans : List ℕ → Front → Type 0
-FrontMeans text Blank = AreGaps text
-FrontMeans text Begun = Unit {0}
-FrontMeans text (Matrix pending) = MatrixSoFar text pending
+abbrev pub OpeningMeans : List ℕ → Opening → Type 0
+OpeningMeans text Blank = AreGaps text
+OpeningMeans text Begun = Unit {0}
+OpeningMeans text (Matrix pending) = MatrixSoFar text pending
 
 -- the next item isn't known from the bytes
-pub record Seen (text : List ℕ) (front : Front) : Type 0 where
+pub record Seen (text : List ℕ) (front : Opening) : Type 0 where
   pub no_item : HasNoItem text
-  pub means : FrontMeans text front
+  pub means : OpeningMeans text front
 
 -- the first item of the bytes has its line end among them
 pub record IsKnownItem (text : List ℕ) (item : Item) (end : ℕ) : Type 0 where

@@ -1,9 +1,9 @@
 // What the bytes held begin with, while the next item isn't known from them.
 ghost use Rattle.std.specs.Prelude.{◌≡◌, ℕ, ◌≤◌, ◌<◌, true, length, take, slice_index, IfOk, IfSome, Contains, IsTrue, ◌↔◌};
 ghost use Rattle.palp_input.specs.Pieces.{line_feed};
-ghost use Rattle.palp_input.specs.FrontSteps.{FrontMeans, LookMeans, MatrixSoFar, Seen, is_gap};
+ghost use Rattle.palp_input.specs.OpeningSteps.{OpeningMeans, LookMeans, MatrixSoFar, Seen, is_gap};
 
-use crate::fault::{ItemFault, TextKind};
+use crate::fault::ItemFault;
 use crate::grammar::{Found, first_item};
 use crate::item::{Item, Matrix};
 use crate::lines::{Line, read_line};
@@ -14,7 +14,7 @@ use std::alloc::Global;
 
 /// What the bytes held begin with.
 #[derive(Drop)]
-pub enum Front {
+pub enum Opening {
     /// They are blanks and line ends.
     Blank,
     /// An item has begun.
@@ -46,44 +46,49 @@ pub enum Look {
     /// It is faulty.
     Faulty(ItemFault),
     /// It isn't known yet.
-    Unknown(Front),
+    Unknown(Opening),
 }
 
 /// Looks at the bytes held, where so many of them were looked at before. As an item or a fault is known
 /// only with a line end, nothing is read again before the next one is there; and as a fault at the end
 /// of the bytes is known only by the byte behind it, the last of them counts too.
-pub fn look_at(alloc: Global, text: &[u8], looked: usize, front: Front) -> Result<Look, NoMemory>
+pub fn look_at(
+    alloc: Global,
+    text: &[u8],
+    looked: usize,
+    opening: Opening,
+) -> Result<Look, NoMemory>
     requires within { looked ≤ length text.now }
-    requires seen { Seen (take looked text.now) front }
+    requires seen { Seen (take looked text.now) opening }
     ensures { IfOk result (LookMeans text.now) }
 {
-    let front = longer(text, looked, front);
+    let opening = longer(text, looked, opening);
     if !has_line_end(&text[looked.saturating_sub(1)..]) {
-        return Ok(Look::Unknown(front));
+        return Ok(Look::Unknown(opening));
     }
-    match front {
-        Front::Blank => Ok(Look::Unknown(Front::Blank)),
-        Front::Begun => begin(alloc, text),
-        Front::Matrix(pending) => read_on(text, pending),
+    match opening {
+        Opening::Blank => Ok(Look::Unknown(Opening::Blank)),
+        Opening::Begun => begin(alloc, text),
+        Opening::Matrix(pending) => read_on(text, pending),
     }
 }
 
 /// What the bytes begin with, by what the first ones do.
-fn longer(text: &[u8], looked: usize, front: Front) -> Front
+fn longer(text: &[u8], looked: usize, opening: Opening) -> Opening
     requires within { looked ≤ length text.now }
-    requires seen { FrontMeans (take looked text.now) front }
-    ensures { FrontMeans text.now result }
+    requires seen { OpeningMeans (take looked text.now) opening }
+    ensures { OpeningMeans text.now result }
 {
-    match front {
-        Front::Blank => {
+    match opening {
+        Opening::Blank => {
             if gaps_end(text, looked) == text.len() {
-                Front::Blank
+                Opening::Blank
             } else {
-                Front::Begun
+                Opening::Begun
             }
         }
-        Front::Begun => Front::Begun,
-        Front::Matrix(pending) => Front::Matrix(pending),
+        Opening::Begun => Opening::Begun,
+        Opening::Matrix(pending) => Opening::Matrix(pending),
     }
 }
 
@@ -117,13 +122,11 @@ fn begin(alloc: Global, text: &[u8]) -> Result<Look, NoMemory>
     match first_item(alloc, text)? {
         Found::Given(item, end) if text[end - 1] == b'\n' => Ok(Look::Known(item, end)),
         Found::Faulty(fault) if fault.end < text.len() => Ok(Look::Faulty(fault)),
-        Found::Faulty(fault) if fault.kind == TextKind::MatrixShort => {
-            match begun_matrix(alloc, text)? {
-                Some(pending) => Ok(Look::Unknown(Front::Matrix(pending))),
-                None => Ok(Look::Unknown(Front::Begun)),
-            }
-        }
-        _ => Ok(Look::Unknown(Front::Begun)),
+        Found::Faulty(_) => match begun_matrix(alloc, text)? {
+            Some(pending) => Ok(Look::Unknown(Opening::Matrix(pending))),
+            None => Ok(Look::Unknown(Opening::Begun)),
+        },
+        _ => Ok(Look::Unknown(Opening::Begun)),
     }
 }
 
@@ -173,14 +176,14 @@ fn read_on(text: &[u8], pending: Pending) -> Result<Look, NoMemory>
             Part::Fault(fault) if fault.end < text.len() => return Ok(Look::Faulty(fault)),
             Part::Missing => {
                 pending.place = text.len();
-                return Ok(Look::Unknown(Front::Matrix(pending)));
+                return Ok(Look::Unknown(Opening::Matrix(pending)));
             }
-            _ => return Ok(Look::Unknown(Front::Matrix(pending))),
+            _ => return Ok(Look::Unknown(Opening::Matrix(pending))),
         }
     }
     let end = line_end(text, pending.place);
     if text[end - 1] != b'\n' {
-        return Ok(Look::Unknown(Front::Matrix(pending)));
+        return Ok(Look::Unknown(Opening::Matrix(pending)));
     }
     let item = Item::Points(Matrix {
         lines: pending.lines,

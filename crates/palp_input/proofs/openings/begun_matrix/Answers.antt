@@ -7,8 +7,8 @@ use Rattle.palp_input.specs.LineSteps.{line_read_of}
 use Rattle.palp_input.specs.declared.lines.LineNumber.{LineNumber}
 use Rattle.palp_input.proofs.Starts.{line_len-pieces}
 use Rattle.palp_input.proofs.Headers.{header_begun}
-use Rattle.palp_input.proofs.HeldFronts.{reads_matrix}
-use Rattle.palp_input.proofs.fronts.begun_matrix.Goals as goal
+use Rattle.palp_input.proofs.HeldOpenings.{reads_matrix}
+use Rattle.palp_input.proofs.openings.begun_matrix.Goals as goal
 
 two_numbers : (numbers : List LineNumber) (d : LineNumber) → 2 ≤ length numbers → length numbers < 3
     → numbers ≡ get_or numbers 0 d ∷ get_or numbers 1 d ∷ []

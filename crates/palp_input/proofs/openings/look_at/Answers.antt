@@ -4,8 +4,8 @@ use Rattle.std.specs.List.{Contains}
 use Rattle.std.proofs.Math.Seq.{take-length}
 use Rattle.palp_input.specs.Pieces.{line_feed}
 use Rattle.palp_input.proofs.Gaps.{gaps_no_item}
-use Rattle.palp_input.proofs.HeldFronts.{no_item_longer}
-use Rattle.palp_input.proofs.fronts.look_at.Goals as goal
+use Rattle.palp_input.proofs.HeldOpenings.{no_item_longer}
+use Rattle.palp_input.proofs.openings.look_at.Goals as goal
 
 not_found : (text : List ℕ) (from looked : ℕ) (found : Bool) → from ≡ looked - 1
     → (Contains (take (length text - from) (drop from text)) line_feed → IsTrue found) → found ≡ false
@@ -21,7 +21,7 @@ returns-then-not-has_line_end c = record {
   no_item = no_item_longer c.args.text.now c.args.looked c.requires.within c.requires.seen.no_item
       (not_found c.args.text.now c.saturating_sub.result c.args.looked c.has_line_end.result c.saturating_sub.ensures c.has_line_end.ensures.1
       c.if-not-has_line_end.true);
-  means = c.longer-front.ensures;
+  means = c.longer-opening.ensures;
 }
 
 pub returns-in-Blank : goal.returns-in-Blank

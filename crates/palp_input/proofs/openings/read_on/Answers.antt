@@ -1,9 +1,9 @@
 use Rattle.std.proofs.Common.{◌≡◌, ℕ, ◌-◌, ◌≤◌, ℤ, List, [], ◌∷◌, ◌++◌, length, rules, SFits, w64, sym, ap, subst, ◌∙◌, arith}
 use Rattle.std.proofs.lemmas.Int.{to_z-of_z}
 use Rattle.palp_input.specs.declared.matrices.Part.TheVariants.{Missing}
-use Rattle.palp_input.proofs.HeldFronts.{reads_matrix, reads_here, entry_more, entry_faulty, part_no_item, matrix_gap, matrix_given, end_some, feed_no_item}
-use Rattle.palp_input.proofs.fronts.read_on.Goals as goal
-use Rattle.palp_input.proofs.fronts.read_on.Goals.{in_default-via-in-Entry+else-end-text, in_default-via-in-Fault+else-fault-text}
+use Rattle.palp_input.proofs.HeldOpenings.{reads_matrix, reads_here, entry_more, entry_faulty, part_no_item, matrix_gap, matrix_given, end_some, feed_no_item}
+use Rattle.palp_input.proofs.openings.read_on.Goals as goal
+use Rattle.palp_input.proofs.openings.read_on.Goals.{in_default-via-in-Entry+else-end-text, in_default-via-in-Fault+else-fault-text}
 
 pub loop-pending-preserved : goal.loop-pending-preserved
 loop-pending-preserved c =

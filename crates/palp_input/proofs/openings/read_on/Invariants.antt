@@ -1,5 +1,5 @@
-use Rattle.palp_input.specs.FrontSteps.{MatrixSoFar}
-use Rattle.palp_input.proofs.fronts.read_on.Given as goal
+use Rattle.palp_input.specs.OpeningSteps.{MatrixSoFar}
+use Rattle.palp_input.proofs.openings.read_on.Given as goal
 
 abbrev pub invariant-loop-pending : goal.invariant-loop-pending
 invariant-loop-pending l = MatrixSoFar l.text l.pending

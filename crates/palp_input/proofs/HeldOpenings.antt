@@ -9,8 +9,9 @@ use Rattle.palp_input.specs.Pieces.{line_feed, line_len, pieces_of}
 use Rattle.palp_input.specs.Lines.{MatrixRead, AllEntries, FaultyMatrix, MissingEntries, matrix_read}
 use Rattle.palp_input.specs.LineSteps.{matrix_behind, EntryMeans, IsNextEntry}
 use Rattle.palp_input.specs.Grammar.{Listed, ListedPoints, Next, Nothing, Given, Faulty, line_end, matrix_item, next_of}
-use Rattle.palp_input.specs.FrontSteps.{HasNoItem, MatrixSoFar}
-use Rattle.palp_input.specs.declared.fronts.Pending.{Pending}
+use Rattle.palp_input.specs.OpeningSteps.{MatrixSoFar}
+use Rattle.palp_input.specs.Reading.{HasNoItem}
+use Rattle.palp_input.specs.declared.openings.Pending.{Pending}
 use Rattle.palp_input.specs.declared.fault.ItemFault.{ItemFault}
 use Rattle.palp_input.specs.declared.matrices.Part.{Part}
 use Rattle.palp_input.specs.declared.matrices.Part.TheVariants.{Entry, Fault, Missing}
