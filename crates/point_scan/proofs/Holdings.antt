@@ -22,6 +22,7 @@ module _ (n : ℕ) (points : List (List ℤ)) (j : ℕ) (functions : List Affine
   holds_more holds sound same members facet = record {
     sound = sound;
     dimension = same ∙ holds.dimension;
+    small = λ x h. holds.small x ((members x).0 h).0;
     inside = λ x h.
         let m = (members x).0 h in
         let this : pos 0 ≤ℤ value_over f x (pos j) = subst (λ (z : ℤ). pos 0 ≤ℤ z) (dilated_value f g j x normals constants) m.1 in

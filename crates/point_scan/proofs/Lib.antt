@@ -6,4 +6,5 @@ pub mod DilatePoints
 pub mod Holdings
 pub mod Scans
 pub mod RunPoints
+pub mod Visiting
 pub mod SegmentSteps

@@ -2,19 +2,19 @@
 use Rattle.std.specs.Prelude.{ℤ, pos, ◌≤ℤ◌}
 use Rattle.std.specs.List.{All, Contains, filter}
 use Rattle.std.proofs.lemmas.List.Elements.{All-contains}
-use Rattle.std.proofs.Common.{◌≡◌, ℕ, ◌<◌, ◌≤◌, true, false, List, [], ◌++◌, length, sym, ap, subst, ◌∙◌, arith}
+use Rattle.std.proofs.Common.{◌≡◌, ℕ, ◌<◌, ◌≤◌, true, false, List, [], ◌++◌, length, sym, ap, subst, ◌∙◌, arith, length-append, ◌∷◌, ◌+◌}
 use Rattle.lattice_theory.specs.Affine.{Affine, value_over}
 use Rattle.lattice_theory.specs.Facet.{AreFacetsInAnyOrder}
 use Rattle.lattice_theory.specs.Order.{Lists, LexLess}
 use Rattle.lattice_theory.specs.Points.{IsDilatePoint}
 use Rattle.lattice_theory.specs.Grid.{Follows, grid, behind}
-use Rattle.lattice_theory.proofs.LexWalks.{AreBefore, AreUpTo}
+use Rattle.lattice_theory.proofs.LexWalks.{AreBefore, AreUpTo, found_first}
 use Rattle.lattice_theory.proofs.Unique.{no_member}
 use Rattle.region_walk.specs.Regions.{IsInRegion, levels_of}
 use Rattle.region_walk.specs.Walks.{IsAtRun, IsAtFirst, first_point, last_point, run_points}
 use Rattle.region_walk.specs.declared.region.Region.{Region}
 use Rattle.region_walk.specs.declared.walk.RegionWalk.{RegionWalk}
-use Rattle.region_walk.proofs.Runs.{run_found, fewer_behind, next_before, none_left, found_within, first_before}
+use Rattle.region_walk.proofs.Runs.{run_found, fewer_behind, next_before, none_left, first_before}
 use Rattle.point_scan.specs.Dilates.{AreDilatePoints}
 use Rattle.point_scan.specs.ScanSteps.{HoldsDilate, is_inside}
 use Rattle.point_scan.proofs.DilatePoints.{inside_are_dilate_points}
@@ -100,7 +100,8 @@ module _ (n : ℕ) (points : List (List ℤ)) (j : ℕ) (facets : List Affine) (
     pub record HasAll : Type 0 where
       pub lattice : List (List ℤ)
       pub are_dilate_points : AreDilatePoints n points j lattice
-      pub more : length (found ++ run_points w) ≤ length lattice
+      pub rest : List (List ℤ)
+      pub whole : lattice ≡ (found ++ run_points w) ++ rest
 
     pub has_all : HasAll
     has_all =
@@ -111,6 +112,15 @@ module _ (n : ℕ) (points : List (List ℤ)) (j : ℕ) (facets : List Affine) (
         record {
           lattice = all;
           are_dilate_points = are_all;
-          more = found_within r.low r.high (levels_of r) scanned.at.sound w.beginning.entries.items w.run.low w.run.high scanned.at.run n
-              scanned.holds.dimension (found ++ run_points w) all up_to (region_lists r scanned.holds all are_all);
+          rest = behind (last_point w) all;
+          whole = found_first (IsInRegion r) n (λ y h. sym h.inside.low_dimension ∙ scanned.holds.dimension) (last_point w) (found ++ run_points w)
+              all (let e = scanned.at.run.coordinates in let d = scanned.holds.dimension in
+              let l = length-append w.beginning.entries.items (w.run.high ∷ []) in omega arith) up_to (region_lists r scanned.holds all are_all);
         }
+
+    -- so these are at least so many
+    pub at_least : (all : HasAll) → length found + length (run_points w) ≤ length all.lattice
+    at_least all =
+        let l = ap length all.whole ∙ length-append (found ++ run_points w) all.rest in
+        let k = length-append found (run_points w) in
+        omega arith

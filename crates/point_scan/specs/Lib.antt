@@ -1,3 +1,4 @@
 pub mod Dilates
 pub mod ScanSteps
 pub mod Faults
+pub mod Visits

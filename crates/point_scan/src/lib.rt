@@ -12,6 +12,8 @@ mod limits;
 mod points;
 mod runs;
 mod spans;
+mod visits;
 
 pub use limits::{MOST_COUNT, MOST_DILATE};
 pub use points::{count_to, scan};
+pub use visits::{Visitor, for_each_dilate};

@@ -80,4 +80,4 @@ pub fn count_to(
 }
 
 #[cfg(test)]
-mod tests;
+pub(crate) mod tests;

@@ -31,7 +31,7 @@ fn function(a: i64, c: i128) -> Functional
 }
 
 /// The ends of the segment from -2 to 5.
-fn ends(alloc: Global) -> Result<Vec<Point>, NoMemory>
+pub(crate) fn ends(alloc: Global) -> Result<Vec<Point>, NoMemory>
     ensures { IfOk result (λ ends. ends.items ≡ segment) }
 {
     let mut ends = Vec::new(alloc);
@@ -41,7 +41,7 @@ fn ends(alloc: Global) -> Result<Vec<Point>, NoMemory>
 }
 
 /// Its facets.
-fn facets(alloc: Global) -> Result<Vec<Functional>, NoMemory>
+pub(crate) fn facets(alloc: Global) -> Result<Vec<Functional>, NoMemory>
     ensures { IfOk result (λ facets. facets.items ≡ lower ∷ upper ∷ []) }
 {
     let mut facets = Vec::new(alloc);

@@ -2,7 +2,7 @@ use Rattle.std.proofs.Common.{◌∙◌}
 use Rattle.lattice_core.specs.Dimensions.{dimension_of}
 use Rattle.lattice_theory.proofs.Members.{empty, all_from_each}
 use Rattle.facet_theory.specs.Solid.{AreSolid}
-use Rattle.point_scan.proofs.AbsoluteSums.{low_small, high_small, corner_in_box}
+use Rattle.point_scan.proofs.AbsoluteSums.{low_small, high_small, corner_in_box, position_small}
 use Rattle.point_scan.proofs.DilatePoints.{dilate_in_box}
 use Rattle.point_scan.proofs.dilates.box_region.Goals as goal
 
@@ -38,6 +38,8 @@ returns c =
     record {
       sound = c.in_ok-region.ensures.sound;
       dimension = c.in_ok-region.ensures.dimension ∙ corners.low_dimension;
+      small = λ x h. position_small (dimension_of points) points c.args.dilate low high x c.requires.dilate c.requires.vertices.sized.within corners
+          ((c.in_ok-region.ensures.members x).0 h);
       inside = λ x h. all_from_each empty;
       all = λ x d. (c.in_ok-region.ensures.members x).1 (dilate_in_box (dimension_of points) points solid c.args.dilate low high corners x d);
     }

@@ -3,7 +3,7 @@ use Rattle.lattice_theory.specs.Grid.{Follows}
 use Rattle.lattice_core.specs.Dimensions.{dimension_of}
 use Rattle.region_walk.specs.Regions.{IsInRegion}
 use Rattle.region_walk.specs.Walks.{first_point, last_point, run_points}
-use Rattle.point_scan.proofs.Scans.{none_found, started, advanced, fewer_left, finished, has_all}
+use Rattle.point_scan.proofs.Scans.{none_found, started, advanced, fewer_left, finished, has_all, at_least}
 use Rattle.point_scan.proofs.points.count_to.Goals as goal
 use Rattle.point_scan.proofs.points.count_to.Goals.{After-advance}
 
@@ -43,7 +43,7 @@ returns-then-count-limit c =
     let points = c.args.vertices.now in
     let i = c.loop-count.invariant in
     let all = has_all (dimension_of points) points c.args.dilate c.args.facets.now c.requires.facets c.loop-count.walk i.found i.scanned in
-    let more = all.more in
+    let more = at_least (dimension_of points) points c.args.dilate c.args.facets.now c.requires.facets c.loop-count.walk i.found i.scanned all in
     let longer = length-append i.found (run_points c.loop-count.walk) in
     let counted = i.counted in
     let count = c.count-count.ensures.points in

@@ -7,7 +7,7 @@ use Rattle.region_walk.specs.Regions.{IsInRegion}
 use Rattle.region_walk.specs.Walks.{first_point, last_point, run_points}
 use Rattle.point_scan.specs.Dilates.{AreDilatePoints}
 use Rattle.point_scan.proofs.DilatePoints.{lattice_from_dilate}
-use Rattle.point_scan.proofs.Scans.{IsScanned, none_found, started, advanced, fewer_left, finished, has_all}
+use Rattle.point_scan.proofs.Scans.{IsScanned, none_found, started, advanced, fewer_left, finished, has_all, at_least}
 use Rattle.point_scan.proofs.points.scan.Goals as goal
 use Rattle.point_scan.proofs.points.scan.Goals.{In_ok-region, In-Some, After-count, After-advance}
 
@@ -54,7 +54,7 @@ returns-then-count-len-clause-refused c =
     let points = c.args.vertices.now in
     let found = c.loop-told.points.items in
     let all = has_all n points 1 c.args.facets.now c.requires.facets c.loop-told.walk found c.loop-told.invariant.scanned in
-    let more = all.more in
+    let more = at_least n points 1 c.args.facets.now c.requires.facets c.loop-told.walk found c.loop-told.invariant.scanned all in
     let longer = length-append found (run_points c.loop-told.walk) in
     let count = c.count.ensures.points in
     let len = c.len.ensures in
