@@ -7,12 +7,18 @@
 The layouts that are read, and the text grammar by which items are cut, are those of docs/formats.md and docs/help.txt.
 """
 
+import sys
+
+if sys.version_info < (3, 8):
+    sys.stderr.write("palp: the scripts need Python 3.8 or a later one, and this is %d.%d\n" % sys.version_info[:2])
+    sys.exit(69)
+
 import os
 import re
 import shlex
 import shutil
+import signal
 import subprocess
-import sys
 from dataclasses import dataclass, field
 from fractions import Fraction
 from pathlib import Path
@@ -113,6 +119,8 @@ class Lines:
         if self.number == len(self.left):
             raise ReportFault(f"line {self.number}: the report ends within a block")
         self.number += 1
+        if re.search(r"\d{1000}", self.left[self.number - 1]):
+            raise ReportFault(f"line {self.number}: a number of more digits than a report has")
         return self.left[self.number - 1]
 
     def rows(self, count: int, width: int) -> Matrix:
@@ -262,7 +270,17 @@ class Item:
 
 
 NUMBERS = re.compile(rb"[\t\r ]*((?:-?[0-9]+(?:[\t\r ]+|$))*)")
-HEADER_MOST = 10**18
+MOST_DIGITS = 18
+
+
+def header_of(line: bytes) -> Optional[List[int]]:
+    """The numbers of a matrix's header; None where the line isn't one. Digits are counted first: Python reads no number of thousands of them."""
+    found = NUMBERS.match(line)
+    words = found[1].split() if found else []
+    digits = [it.lstrip(b"-").lstrip(b"0") for it in words]
+    if len(words) != 2 or any(len(it) > MOST_DIGITS or (it and word.startswith(b"-")) for it, word in zip(digits, words)):
+        return None
+    return [int(it or b"0") for it in digits]
 
 
 def matrix_end(lines: List[bytes], at: int, rows: int, columns: int) -> int:
@@ -288,9 +306,8 @@ def items_of(text: bytes, number: int = 1, line: int = 1) -> List[Item]:
     while at < len(lines):
         end = at + 1
         if lines[at].strip(b"\t\r "):
-            found = NUMBERS.match(lines[at])
-            header = [int(it) for it in found[1].split()] if found else []
-            if len(header) == 2 and all(0 <= it < HEADER_MOST for it in header):
+            header = header_of(lines[at])
+            if header:
                 end = matrix_end(lines, at, *header)
             items.append(Item(number + len(items), line + at, lines[at:end]))
         at = end
@@ -456,7 +473,7 @@ def reports_of(script: str, names: Sequence[str]) -> List[Record]:
 
 
 def end(script: str, main: Callable[[List[str]], int]) -> NoReturn:
-    """Runs a script and ends with its status, which is 7 where what it writes can't be written."""
+    """Runs a script and ends with its status, which is 7 where what it writes can't be written. On a closed pipe it ends as a filter does."""
     try:
         try:
             status = main(sys.argv[1:])
@@ -465,6 +482,10 @@ def end(script: str, main: Callable[[List[str]], int]) -> NoReturn:
         sys.stdout.flush()
     except KeyboardInterrupt:
         status = 130
+    except BrokenPipeError:
+        signal.signal(signal.SIGPIPE, signal.SIG_DFL)
+        os.kill(os.getpid(), signal.SIGPIPE)
+        status = 128 + signal.SIGPIPE
     except OSError as fault:
         print(f"{script}: {fault.filename + ': ' if fault.filename else ''}{fault.strerror}", file=sys.stderr)
         # (Python would try to write the rest again)

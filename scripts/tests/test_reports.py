@@ -116,6 +116,7 @@ class Faults(unittest.TestCase):
             (QUARTIC.replace("#nef:2", "#nef:3"), "line 4"),
             ("3 1 1 1\n#ref:2\n", "line 2"),
             ("P:1 V:0 1\n", "line 1"),
+            (f"M:11 3 F:3\nM:{'1' * 5000} 3 F:3\n", "line 2"),
         ]:
             with self.assertRaisesRegex(palp.ReportFault, line):
                 palp.read(report)
@@ -136,6 +137,12 @@ class Items(unittest.TestCase):
         self.assertEqual(self.cut(b"3 2\n1 x\n2 2\n3 3\n3 1 1 1\n"), [(1, 1, 4), (2, 5, 1)])
         self.assertEqual(self.cut(b"hello\n-1 2\n3 1 1 1\n"), [(1, 1, 1), (2, 2, 1), (3, 3, 1)])
         self.assertEqual(self.cut(b"3 1 1 1\n5 2\n1 1\n"), [(1, 1, 1), (2, 2, 2)])
+
+    def test_long_numbers(self):
+        long = b"9" * 5000
+        self.assertEqual(self.cut(long + b" 2\n2 1 1\n" + b"3 -" + long + b"\n3 " + long + b" 1 1\n3 1 1 1\n"), [(i, i, 1) for i in range(1, 6)])
+        zeros = b"0" * 5000
+        self.assertEqual(self.cut(zeros + b"2 -" + zeros + b"\n" + zeros + b"1 2\n1 1\n1" + b"0" * 18 + b" 1\n1 1\n"), [(1, 1, 1), (2, 2, 2), (3, 4, 1), (4, 5, 1)])
 
     def test_texts_of_lists(self):
         self.assertEqual(palp.text_of([[3, 1, 1, 1], [[-1, -1], [3, -1], [-1, 2]], "5 1 1 1 1 1"]), b"3 1 1 1\n3 2\n-1 -1\n3 -1\n-1 2\n5 1 1 1 1 1\n")

@@ -2,18 +2,23 @@
 
 import os
 import shutil
+import signal
 import subprocess
 import sys
 import tempfile
+import time
 import unittest
 from pathlib import Path
 
 from common import HAS_PROGRAM, PROGRAM, TOP, run
 
-# A stub of rt: it takes a while for each crate, notes it, and makes a program that prints its words. Where the file `fails` stands it fails.
+# A stub of rt: it takes a while for each crate, notes it, and makes a program that prints its words. Where the file `fails` stands it fails,
+# where `waits` stands it waits long, in a process of its own that is noted there, and where `edits` stands a source is edited meanwhile.
 RT = """#!/bin/sh
 echo "$1 $(basename "$PWD")" >>"$STARTS"
 sleep 0.2
+if [ -e ../../waits ]; then sleep 600 & echo $! >>../../waits; wait; fi
+if [ -e ../../edits ]; then rm ../../edits; touch source; fi
 if [ -e ../../fails ]; then echo 'the goal is open'; exit 1; fi
 mkdir -p out
 if [ "$1" = run ]; then printf '#!/bin/sh\\necho "ran $*"\\n' >out/palp_cli; chmod +x out/palp_cli; exit 2; fi
@@ -89,6 +94,39 @@ class Building(unittest.TestCase):
         (self.top / "fails").unlink()
         begun = self.begin()
         self.assertEqual((begun.communicate(timeout=300)[0], begun.returncode), (b"ran poly -n\n", 0))
+
+
+    def test_an_edit_during_a_build(self):
+        (self.top / "edits").touch()
+        for starts in (4, 8, 8):
+            begun = self.begin()
+            self.assertEqual((begun.communicate(timeout=300)[0], begun.returncode), (b"ran poly -n\n", 0))
+            self.assertEqual(len(self.starts.read_text(encoding="utf-8").splitlines()), starts)
+
+    def runs(self, number):
+        """Whether a process runs on for a while. One that has ended and that nobody waited for doesn't run."""
+        for _ in range(300):
+            try:
+                if Path(f"/proc/{number}/stat").read_text(encoding="utf-8").rpartition(")")[2].split()[0] in "ZX":
+                    return False
+            except OSError:
+                return False
+            time.sleep(0.1)
+        return True
+
+    def test_no_proof_runs_on(self):
+        for ended, number, status in (("build", signal.SIGTERM, 143), ("build", signal.SIGINT, 130), ("palp", signal.SIGKILL, -9)):
+            waits = self.top / "waits"
+            waits.write_text("")
+            words = [str(self.top / "palp"), "poly"] if ended == "palp" else [sys.executable, str(self.top / "scripts" / "build")]
+            begun = subprocess.Popen(words, env=self.environment, stdin=subprocess.DEVNULL, stdout=subprocess.DEVNULL, stderr=subprocess.DEVNULL)
+            for _ in range(1200):
+                if waits.read_text(encoding="utf-8").endswith("\n"):
+                    break
+                time.sleep(0.1)
+            begun.send_signal(number)
+            self.assertEqual(begun.wait(60), status)
+            self.assertFalse(any(self.runs(int(it)) for it in waits.read_text(encoding="utf-8").split()))
 
 
 @unittest.skipUnless(HAS_PROGRAM, "the program isn't built")

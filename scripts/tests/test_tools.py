@@ -58,6 +58,16 @@ class Table(unittest.TestCase):
                 done = subprocess.run([sys.executable, str(SCRIPTS / words[0]), *words[1:]], input=REPORT.encode(), stdout=full, stderr=subprocess.PIPE, check=False)
             self.assertEqual((done.returncode, done.stderr.decode()), (7, f"{words[0]}: No space left on device\n"))
 
+    def test_a_closed_pipe(self):
+        for words in (["table"], ["hodge-plot", "--help"], ["scan", "--help"]):
+            reading, writing = os.pipe()
+            os.close(reading)
+            done = subprocess.run(
+                [sys.executable, str(SCRIPTS / words[0]), *words[1:]], input=REPORT.encode(), stdout=writing, stderr=subprocess.PIPE, check=False
+            )
+            os.close(writing)
+            self.assertEqual((done.returncode, done.stderr.decode()), (-signal.SIGPIPE, ""))
+
     def test_help(self):
         for name in ("scan", "table", "hodge-plot", "build"):
             status, wrote, said = run([name, "--help"])
@@ -113,13 +123,18 @@ class Scan(unittest.TestCase):
             self.assertEqual(said, "".join(f"palp: {it}\n" for it in CAUSES) + "scan: 6 items: 3 reported, 1 refused, 2 faulty\n")
         self.assertEqual([it for it in os.listdir(self.room.name) if it.startswith("scan-")], [])
 
+    def test_a_number_of_thousands_of_digits(self):
+        status, wrote, said = self.scan("poly", "-n", text="9" * 5000 + " 2\n3 1 1 1\n")
+        self.assertEqual((status, wrote), (3, "3 1 1 1 M:10 3 F:3\n"))
+        self.assertEqual(said, "palp: item 1: line 1 column 1: NumberRange\nscan: 2 items: 1 reported, 0 refused, 1 faulty\n")
+
     def test_slices_are_the_list(self):
         parts = [self.scan("--slice", f"{k}/2", "poly", "-n") for k in (1, 2)]
         self.assertEqual("".join(it[1] for it in parts), MIXED_REPORT)
         notes = [line for it in parts for line in it[2].splitlines() if line.startswith("palp: ")]
         self.assertEqual(notes, [f"palp: {it}" for it in CAUSES])
 
-    @unittest.skipIf(os.environ.get("CI"), "under CI: it waits and interrupts, for which a machine may be too slow")
+    @unittest.skipUnless(os.environ.get("INTERRUPT_TEST"), "it waits and interrupts, and runs where the variable INTERRUPT_TEST is set")
     def test_goes_on_after_an_interrupt(self):
         # The program is slow here, and leaves a mark at each start.
         slow = Path(self.room.name) / "slow"
@@ -153,6 +168,7 @@ class Scan(unittest.TestCase):
             ([], 2),
             (["--block", "0", "poly", "-n"], 2),
             (["--slice", "4/3", "poly", "-n"], 2),
+            (["--slice", "1/" + "9" * 5000, "poly", "-n"], 2),
             (["--in", "/nowhere", "poly", "-n"], 2),
         ]:
             found, wrote, said = self.scan(*words)
