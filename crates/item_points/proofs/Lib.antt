@@ -5,3 +5,4 @@ pub mod SingleWeights
 pub mod SingleItems
 pub mod LineNumbers
 pub mod WeightWalks
+pub mod WeightLattice

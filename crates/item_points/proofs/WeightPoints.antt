@@ -8,6 +8,7 @@ use Rattle.lattice_core.specs.Weights.{Weighted, columns_of}
 use Rattle.lattice_core.proofs.Dimension.{dimension_is}
 use Rattle.lattice_core.specs.PointLists.{ArePoints}
 use Rattle.item_points.specs.WeightLines.{HaveCoordinates, AreWeightPoints}
+use Rattle.item_points.specs.Laws.{WeightPointsAreFew}
 
 -- as many points as members, each with as many coordinates as there are vectors
 have_count : (n : ℕ) (vectors members points : List (List ℤ)) → HaveCoordinates n vectors members points → length members ≡ length points
@@ -34,3 +35,10 @@ weight_are_points systems points a =
     all_from_each (have_dimension (columns_of systems) vectors a.members points a.coordinates) in
     let first = dimension_is (length vectors) points some dims in
     (record { some = some; one_dimension = rw first dims }, first)
+
+-- they are few
+pub weight_points_are_few : WeightPointsAreFew
+weight_points_are_few systems points a =
+    let same = have_count (columns_of systems) a.frame.vectors a.members points a.coordinates in
+    let few = a.few in
+    omega arith

@@ -44,7 +44,7 @@ shifted_sum a t e d s h =
         let one = *ℤ-one a in
         omega (arith, linear)
 
-shifted_degree : (weights : List ℕ) (a : List ℤ) → length weights ≡ length a
+pub shifted_degree : (weights : List ℕ) (a : List ℤ) → length weights ≡ length a
     → dot (map pos weights) (monomial_point a) ≡ dot (map pos weights) a -ℤ pos (total weights)
 shifted_degree [] [] l = refl
 shifted_degree [] (e ∷ a) l = absurd (omega arith)
@@ -138,12 +138,12 @@ have_all systems vectors (a ∷ members) formed frame e =
     record { points = one.coefficients ∷ others.points; coordinates = (one.are_coordinates, others.coordinates) }
 
 -- the coordinates of a member
-record HasPoint (n : ℕ) (vectors points : List (List ℤ)) (a : List ℤ) : Type 0 where
-  point : List ℤ
-  member : In point points
-  coordinates : AreCoordinates n vectors (monomial_point a) point
+pub record HasPoint (n : ℕ) (vectors points : List (List ℤ)) (a : List ℤ) : Type 0 where
+  pub point : List ℤ
+  pub member : In point points
+  pub coordinates : AreCoordinates n vectors (monomial_point a) point
 
-have_point : (n : ℕ) (vectors members points : List (List ℤ)) (a : List ℤ) → HaveCoordinates n vectors members points → In a members
+pub have_point : (n : ℕ) (vectors members points : List (List ℤ)) (a : List ℤ) → HaveCoordinates n vectors members points → In a members
     → HasPoint n vectors points a
 have_point n vectors [] points a h i = elim i [ ]
 have_point n vectors (b ∷ members) [] a h i = absurd h

@@ -15,4 +15,4 @@ mod weights;
 
 pub use examples::{matrix_points_are_an_example, numbers_refusal_is_an_example};
 pub use items::{points_of_item, points_of_matrix, points_of_systems};
-pub use laws::item_points_are_single;
+pub use laws::{item_points_are_single, weight_points_are_lattice_points};

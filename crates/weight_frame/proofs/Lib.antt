@@ -19,3 +19,4 @@ pub mod Finding
 pub mod CoordinateAnswers
 pub mod PlainSystems
 pub mod StepBounds
+pub mod FrameOrder

@@ -1,9 +1,10 @@
 -- The laws of frames, as statements. This project's own.
-use Rattle.std.specs.Prelude.{◌≡◌, ℕ, ◌^◌, ◌<◌, ◌≤◌, List, ◌∷◌, length, ℤ}
+use Rattle.std.specs.Prelude.{◌≡◌, ◌↔◌, ℕ, ◌^◌, ◌<◌, ◌≤◌, List, ◌∷◌, length, ℤ}
 use Rattle.std.specs.List.{Contains}
+use Rattle.lattice_theory.specs.Order.{LexLess}
 use Rattle.lattice_core.specs.declared.limits.TheConstants.{MOST_COORDINATES}
-use Rattle.lattice_core.specs.Weights.{Weighted, weighted_degree, AreWellFormed, AreWithinLimits}
-use Rattle.weight_frame.specs.Frame.{IsFrame, IsRecursion, IsGreatestDivisor, degrees_of, AreLeastMultipliers, AreWithinEntryLimit}
+use Rattle.lattice_core.specs.Weights.{Weighted, weighted_degree, columns_of, AreWellFormed, AreWithinLimits}
+use Rattle.weight_frame.specs.Frame.{IsFrame, IsRecursion, IsGreatestDivisor, degrees_of, AreLeastMultipliers, AreWithinEntryLimit, AreCoordinates}
 use Rattle.weight_frame.specs.Answers.{IsFrameWithinLimit, ExceedsEntryLimit, HasOtherDimension}
 use Rattle.weight_frame.specs.Bases.{IsIntegerBasis}
 use Rattle.weight_frame.specs.StepSizes.{IsStepBelow}
@@ -20,6 +21,11 @@ FrameIsUnique = (systems : List Weighted) (vectors made others others_made : Lis
 -- the frame is an integer basis of the weight lattice
 abbrev pub FrameIsBasis : Type 0
 FrameIsBasis = (systems : List Weighted) (vectors : List (List ℤ)) → IsFrame systems vectors → IsIntegerBasis systems vectors
+
+-- and vectors stand in the order of their coordinates
+abbrev pub FrameKeepsOrder : Type 0
+FrameKeepsOrder = (systems : List Weighted) (vectors : List (List ℤ)) (x y c d : List ℤ) → IsFrame systems vectors
+    → AreCoordinates (columns_of systems) vectors x c → AreCoordinates (columns_of systems) vectors y d → LexLess x y ↔ LexLess c d
 
 -- systems with a frame within the limit don't exceed the limit on entries, whatever is told
 abbrev pub FrameExceedsNothing : Type 0

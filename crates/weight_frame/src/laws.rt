@@ -1,5 +1,5 @@
 //! What holds of frames, as laws.
-ghost use Rattle.weight_frame.specs.Laws.{FrameExists, FrameIsUnique, FrameIsBasis, FrameExceedsNothing, FrameHasOneDimension, StepsAreBounded};
+ghost use Rattle.weight_frame.specs.Laws.{FrameExists, FrameIsUnique, FrameIsBasis, FrameKeepsOrder, FrameExceedsNothing, FrameHasOneDimension, StepsAreBounded};
 
 /// The systems have a frame: the recursion can be carried out.
 pub fn frame_exists()
@@ -14,6 +14,11 @@ pub fn frame_is_unique()
 /// Every vector of the weight lattice is exactly one integer combination of the frame, and every such combination is in the lattice.
 pub fn frame_is_basis()
     ensures { FrameIsBasis }
+{}
+
+/// Of two vectors with coordinates in a frame, one comes before the other in lexicographic order exactly where its coordinates do.
+pub fn frame_keeps_order()
+    ensures { FrameKeepsOrder }
 {}
 
 /// Systems with a frame within the limits aren't refused: no vector of the recursion has an entry above the limit, and the number of the

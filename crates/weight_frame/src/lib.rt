@@ -16,7 +16,8 @@ mod vector;
 pub use coordinates::Coordinates;
 pub use frame::{Frame, FrameFault, frame_of};
 pub use laws::{
-    frame_exists, frame_is_basis, frame_is_refused_for_nothing, frame_is_unique, steps_are_bounded,
+    frame_exists, frame_is_basis, frame_is_refused_for_nothing, frame_is_unique, frame_keeps_order,
+    steps_are_bounded,
 };
 
 #[cfg(test)]
