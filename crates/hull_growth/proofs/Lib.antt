@@ -6,4 +6,5 @@ pub mod NewFacetTurns
 pub mod MorePoints
 pub mod Inside
 pub mod SignTests
+pub mod ValueLists
 mod SegmentHull

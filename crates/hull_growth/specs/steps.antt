@@ -1,3 +1,4 @@
 pub mod Rows
 pub mod Growing
 pub mod Farthest
+pub mod Values

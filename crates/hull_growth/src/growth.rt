@@ -11,7 +11,7 @@ ghost use Rattle.hull_growth.specs.Grown.{HasFacets};
 
 use crate::rows::{FacetRows, rows_of};
 use crate::steps::{add_kept, add_new};
-use crate::values::are_nonnegative_at;
+use crate::values::{are_nonnegative_at, values_at};
 use lattice_core::{Functional, NoMemory, Point};
 use std::alloc::Global;
 use std::marker::Model;
@@ -22,6 +22,7 @@ pub struct Growth {
     alloc: Global,
     corners: Vec<Point>,
     facets: FacetRows,
+    values: Vec<i128>,
 }
 
 impl Model for Growth {
@@ -56,6 +57,7 @@ impl Growth {
                 functions: facets,
                 rows,
             },
+            values: Vec::new(alloc),
         })
     }
 
@@ -105,8 +107,9 @@ impl Growth {
             functions: Vec::new(self.alloc),
             rows: Vec::new(self.alloc),
         };
-        add_kept(&self.corners, &self.facets, p, &mut grown)?;
-        add_new(&self.corners, &self.facets, p, &mut grown)?;
+        values_at(&self.facets.functions, p, &mut self.values)?;
+        add_kept(&self.corners, &self.facets, &self.values, p, &mut grown)?;
+        add_new(&self.corners, &self.facets, &self.values, p, &mut grown)?;
         self.corners.push(p.copied())?;
         self.facets = grown;
         Ok(())

@@ -3,6 +3,7 @@ ghost use Rattle.std.specs.Prelude.{◌≡◌, ℕ, ◌<◌, ◌++◌, ◌∷◌
 ghost use Rattle.lattice_theory.specs.Affine.{Affine, value};
 ghost use Rattle.ridge_theory.specs.Ridges.{IsRidge};
 ghost use Rattle.hull_growth.specs.steps.Rows.{AreCornerRows};
+ghost use Rattle.hull_growth.specs.steps.Values.{AreValuesAt};
 ghost use Rattle.hull_growth.specs.steps.Growing.{IsGrowthStep, IsAddedCombination, Appends, kept_at, IsNewWith, IsNewOf};
 
 use crate::ridges::is_ridge;
@@ -13,16 +14,18 @@ use lattice_core::{Functional, NoMemory, Point, combine};
 pub(crate) fn add_kept(
     corners: &[Point],
     facets: &FacetRows,
+    values: &[i128],
     p: &Point,
     grown: &mut FacetRows,
 ) -> Result<(), NoMemory>
     requires step { IsGrowthStep corners.now facets.now.functions.items facets.now.rows.items p.now }
+    requires values { AreValuesAt p.now facets.now.functions.items values.now }
     requires rows { AreCornerRows (corners.now ++ (p.now ∷ [])) grown.old.functions.items grown.old.rows.items }
     ensures functions { OnOk result (grown.new.functions.items ≡ grown.old.functions.items ++ kept_at p.now facets.now.functions.items) }
     ensures rows { OnOk result (AreCornerRows (corners.now ++ (p.now ∷ [])) grown.new.functions.items grown.new.rows.items) }
 {
     for i in 0..facets.functions.len() {
-        let value = facets.functions[i].at(p);
+        let value = values[i];
         if value >= 0 {
             let row = row_with(facets.rows[i], corners.len(), value);
             grown.add(facets.functions[i].copied(), row)?;
@@ -60,11 +63,13 @@ fn add_combination(
 fn add_new_with(
     corners: &[Point],
     facets: &FacetRows,
+    values: &[i128],
     i: usize,
     p: &Point,
     grown: &mut FacetRows,
 ) -> Result<(), NoMemory>
     requires step { IsGrowthStep corners.now facets.now.functions.items facets.now.rows.items p.now }
+    requires values { AreValuesAt p.now facets.now.functions.items values.now }
     requires rows { AreCornerRows (corners.now ++ (p.now ∷ [])) grown.old.functions.items grown.old.rows.items }
     requires first { i < length facets.now.functions.items }
     requires before { (f : Affine) → f ≡ slice_index_or facets.now.functions.items i f → pos 0 <ℤ value f p.now }
@@ -72,7 +77,7 @@ fn add_new_with(
     ensures rows { OnOk result (AreCornerRows (corners.now ++ (p.now ∷ [])) grown.new.functions.items grown.new.rows.items) }
 {
     for j in 0..facets.functions.len() {
-        if facets.functions[j].at(p) < 0 && is_ridge(corners, facets, i, j) {
+        if values[j] < 0 && is_ridge(corners, facets, i, j) {
             add_combination(corners, facets, i, j, p, grown)?;
         }
     }
@@ -83,17 +88,19 @@ fn add_new_with(
 pub(crate) fn add_new(
     corners: &[Point],
     facets: &FacetRows,
+    values: &[i128],
     p: &Point,
     grown: &mut FacetRows,
 ) -> Result<(), NoMemory>
     requires step { IsGrowthStep corners.now facets.now.functions.items facets.now.rows.items p.now }
+    requires values { AreValuesAt p.now facets.now.functions.items values.now }
     requires rows { AreCornerRows (corners.now ++ (p.now ∷ [])) grown.old.functions.items grown.old.rows.items }
     ensures functions { OnOk result (Appends (IsNewOf corners.now p.now facets.now.functions.items facets.now.functions.items) grown.old.functions.items grown.new.functions.items) }
     ensures rows { OnOk result (AreCornerRows (corners.now ++ (p.now ∷ [])) grown.new.functions.items grown.new.rows.items) }
 {
     for i in 0..facets.functions.len() {
-        if facets.functions[i].at(p) > 0 {
-            add_new_with(corners, facets, i, p, grown)?;
+        if values[i] > 0 {
+            add_new_with(corners, facets, values, i, p, grown)?;
         }
     }
     Ok(())

@@ -1,11 +1,12 @@
 //! The signs of functions at points.
-ghost use Rattle.std.specs.Prelude.{◌≡◌, ◌↔◌, ◌^◌, ◌≤◌, length, pos, ◌≤ℤ◌, nat_abs, IsTrue};
+ghost use Rattle.std.specs.Prelude.{◌≡◌, ◌↔◌, ◌^◌, ◌≤◌, length, pos, ◌≤ℤ◌, nat_abs, OnOk, IsTrue};
 ghost use Rattle.std.specs.List.{All};
 ghost use Rattle.lattice_theory.specs.Vector.{HaveDimension};
 ghost use Rattle.lattice_theory.specs.Affine.{value};
 ghost use Rattle.lattice_theory.specs.Size.{absolute_sum};
+ghost use Rattle.hull_growth.specs.steps.Values.{AreValuesAt};
 
-use lattice_core::{Functional, Point};
+use lattice_core::{Functional, NoMemory, Point};
 
 /// Whether no function is negative at the point.
 pub(crate) fn are_nonnegative_at(functions: &[Functional], p: &Point) -> bool
@@ -15,6 +16,24 @@ pub(crate) fn are_nonnegative_at(functions: &[Functional], p: &Point) -> bool
     ensures { IsTrue result ↔ All (λ f. pos 0 ≤ℤ value f p.now) functions.now }
 {
     functions.iter().all(|f| f.at(p) >= 0)
+}
+
+/// Puts the functions' values at the point, in their order, in the place of what the list held.
+pub(crate) fn values_at(
+    functions: &[Functional],
+    p: &Point,
+    values: &mut Vec<i128>,
+) -> Result<(), NoMemory>
+    requires same { All (λ f. length f.normal ≡ length p.now) functions.now }
+    requires constants { All (λ f. nat_abs f.constant ≤ 2 ^ 100) functions.now }
+    requires small { absolute_sum p.now ≤ 2 ^ 30 }
+    ensures { OnOk result (AreValuesAt p.now functions.now values.new.items) }
+{
+    values.clear();
+    for f in functions {
+        values.push(f.at(p))?;
+    }
+    Ok(())
 }
 
 /// Whether the last function vanishes at each corner at which the two others do.

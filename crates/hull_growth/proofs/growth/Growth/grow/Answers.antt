@@ -8,6 +8,7 @@ use Rattle.lattice_core.specs.Limits.{IsSized}
 use Rattle.hull_growth.specs.Grown.{HasFacets, IsGrown}
 use Rattle.hull_growth.specs.steps.Rows.{AreCornerRows}
 use Rattle.hull_growth.specs.steps.Growing.{IsGrowthStep, Appends, IsNewOf, kept_at}
+use Rattle.hull_growth.proofs.Small.{facets_constants}
 use Rattle.hull_growth.proofs.NewFacetTurns.{grown_facets}
 use Rattle.hull_growth.proofs.Inside.{point_bound, point_inside, facets_inside, step_outside, grown_outside, places_outside}
 use Rattle.hull_growth.proofs.growth.Growth.grow.Goals as goal
@@ -47,11 +48,25 @@ step c = step_outside c.self.inside.corners.items c.self.inside.facets.functions
     (subst (λ b. IsSized (length c.args.p.now) (b.corners ++ (c.args.p.now ∷ []))) (sym c.self.view_is) c.requires.within)
     c.self.invariant.1 (outside c)
 
+pub values_at-requires-clause-constants : goal.values_at-requires-clause-constants
+values_at-requires-clause-constants c =
+    let corners = c.self.inside.corners.items in
+    let grown = c.self.invariant.0 in
+    rw c.deref.ensures.value
+    (facets_constants (dimension_of corners) corners c.self.inside.facets.functions.items grown.solid.sized.are_points.one_dimension
+    grown.solid.solid grown.solid.sized.within grown.hull.members)
+
+pub values_at-requires-clause-small : goal.values_at-requires-clause-small
+values_at-requires-clause-small c =
+    let at = (goal.at.values_at-requires-clause-small c).After-self in
+    point_bound c.self.inside.corners.items c.self.inside.facets.functions.items c.self.inside.facets.rows.items c.args.p.now
+    c.self.invariant.0 (same at) (within at)
+
 pub add_kept-requires-clause-step : goal.add_kept-requires-clause-step
-add_kept-requires-clause-step c = rw c.deref.ensures.value (step (goal.at.add_kept-requires-clause-step c).After-new)
+add_kept-requires-clause-step c = rw c.deref-2.ensures.value (step (goal.at.add_kept-requires-clause-step c).After-new)
 
 pub add_new-requires-clause-step : goal.add_new-requires-clause-step
-add_new-requires-clause-step c = rw c.deref-2.ensures.value (step (goal.at.add_new-requires-clause-step c).After-new)
+add_new-requires-clause-step c = rw c.deref-4.ensures.value (step (goal.at.add_new-requires-clause-step c).After-new)
 
 -- the new facets
 new_facets : (c : After-drop-self-inside-2) → HasFacets (length c.args.p.now) (c.self.inside.corners.items ++ (c.args.p.now ∷ []))
@@ -64,7 +79,7 @@ new_facets c =
     c.add_new.new.grown.functions.items
     (subst (λ us. Appends (IsNewOf corners p fs fs) us c.add_new.new.grown.functions.items)
     (c.in_ok-add_kept.ensures.functions ∙ ap (λ us. us ++ kept_at p fs) c.new.ensures.items)
-    (rw c.deref-2.ensures.value at c.in_ok-add_new.ensures.functions))
+    (rw c.deref-4.ensures.value at c.in_ok-add_new.ensures.functions))
 
 -- the corners with the point
 more_corners : (c : After-drop-self-inside-2) → c.push.new.self.items ≡ c.self.inside.corners.items ++ (c.args.p.now ∷ [])
@@ -77,7 +92,7 @@ invariant_of-self-2 c =
     subst (λ cs. IsGrown cs us × AreCornerRows cs us c.add_new.new.grown.rows.items) (sym (more_corners c)) (
       grown_outside c.self.inside.corners.items c.self.inside.facets.functions.items c.self.inside.facets.rows.items c.args.p.now
           c.self.invariant.0 (same at) (within at) us (new_facets c),
-      rw c.deref-2.ensures.value at c.in_ok-add_new.ensures.rows,
+      rw c.deref-4.ensures.value at c.in_ok-add_new.ensures.rows,
     )
 
 pub returns-clause-facets : goal.returns-clause-facets
@@ -97,7 +112,7 @@ returns-clause-places c =
     let at = (goal.at.returns-clause-places c).After-self in
     let fs = c.self.inside.facets.functions.items in
     let p = c.args.p.now in
-    let added = rw c.deref-2.ensures.value at c.in_ok-add_new.ensures.functions in
+    let added = rw c.deref-4.ensures.value at c.in_ok-add_new.ensures.functions in
     subst (λ b. (k : ℕ) → All (λ f. pos 0 ≤ℤ value f p) (take k b.facets) → take k c.add_new.new.grown.functions.items ≡ take k b.facets)
     c.self.view_is
     (λ k all. ap (take k) (added.whole ∙ ap (λ us. us ++ added.more)
