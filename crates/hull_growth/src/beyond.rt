@@ -17,7 +17,7 @@ pub struct Beyond {
     pub point: usize,
 }
 
-/// The place of the first of the points that lie farthest beyond the function, if one lies beyond it.
+/// The place of a point that lies farthest beyond the function, if one lies beyond it.
 fn farthest(f: &Functional, points: &[Point]) -> Option<usize>
     requires dimension { HaveDimension (length f.now.normal) points.now }
     requires small { All (λ p. absolute_sum p ≤ 2 ^ 30) points.now }
@@ -36,14 +36,15 @@ fn farthest(f: &Functional, points: &[Point]) -> Option<usize>
     place
 }
 
-/// Of the functions from the place `from` on the first that has points beyond it, and the farthest of these. It is `None` exactly where no point
+/// Of the functions from the place `from` on the first that has points beyond it, and one of these that lies farthest. It is `None` exactly where no point
 /// lies beyond any of them. All have the points' dimension; the constants are at most 2^100, and the absolute values of a point's entries sum to
 /// at most 2^30. It takes no memory.
 pub fn first_beyond(functions: &[Functional], points: &[Point], from: usize) -> Option<Beyond>
     requires dimension { All (λ f. HaveDimension (length f.normal) points.now) functions.now }
     requires small { All (λ p. absolute_sum p ≤ 2 ^ 30) points.now }
     requires constants { All (λ f. nat_abs f.constant ≤ 2 ^ 100) functions.now }
-    ensures { MatchOption result (AllWithin (IsNonnegative points.now) functions.now from (length functions.now)) (λ b. IsFirstBeyond functions.now points.now from b.facet b.point) }
+    ensures { MatchOption result (AllWithin (IsNonnegative points.now) functions.now from (length functions.now))
+        (λ b. IsFirstBeyond functions.now points.now from b.facet b.point) }
 {
     for facet in from..functions.len() {
         if let Some(point) = farthest(&functions[facet], points) {

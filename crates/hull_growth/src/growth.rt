@@ -1,5 +1,5 @@
 //! A hull that grows point by point.
-ghost use Rattle.std.specs.Prelude.{◌≡◌, ◌⊎◌, ℕ, ◌≤◌, ◌<◌, ◌↔◌, [], ◌∷◌, ◌++◌, length, take, pos, ◌≤ℤ◌, ◌<ℤ◌, ◌^◌, IfOk, OnOk, OnErr, IsTrue};
+ghost use Rattle.std.specs.Prelude.{◌≡◌, ◌⊎◌, ℕ, ◌≤◌, ◌↔◌, [], ◌∷◌, ◌++◌, length, take, pos, ◌≤ℤ◌, ◌<ℤ◌, ◌^◌, IfOk, OnOk, OnErr, IsTrue};
 ghost use Rattle.std.specs.List.{All, Contains};
 ghost use Rattle.lattice_theory.specs.Affine.{Affine, value};
 ghost use Rattle.lattice_theory.specs.Size.{absolute_sum};
@@ -88,17 +88,20 @@ impl Growth {
     }
 
     /// The facets with one more point of the same dimension, with which the corners are within the size limit. Where the point lies in the hull
-    /// nothing changes, and no memory is taken; otherwise it becomes the last corner. Facets at the beginning that aren't negative at the point
-    /// stay in their places. Without memory for the facets it is `NoMemory`, and nothing changes.
+    /// nothing changes, and no memory is wanted; otherwise it becomes the last corner. Facets at the beginning that aren't negative at the point
+    /// stay in their places. Without memory for a point outside it is `NoMemory`, and nothing changes.
     pub fn grow(&mut self, p: &Point) -> Result<(), NoMemory>
         requires dimension { length p.now ≡ dimension_of self.old.corners }
         requires within { IsSized (length p.now) (self.old.corners ++ (p.now ∷ [])) }
         ensures facets { OnOk result (HasFacets (length p.now) (self.old.corners ++ (p.now ∷ [])) self.new.facets) }
         ensures corners { OnOk result ((self.new ≡ self.old) ⊎ (self.new.corners ≡ self.old.corners ++ (p.now ∷ []))) }
         ensures inside { OnOk result (All (λ f. pos 0 ≤ℤ value f p.now) self.old.facets → self.new ≡ self.old) }
-        ensures outside { OnOk result ((f : Affine) → Contains self.old.facets f → value f p.now <ℤ pos 0 → self.new.corners ≡ self.old.corners ++ (p.now ∷ [])) }
-        ensures places { OnOk result ((k : ℕ) → All (λ f. pos 0 ≤ℤ value f p.now) (take k self.old.facets) → take k self.new.facets ≡ take k self.old.facets) }
+        ensures outside { OnOk result ((f : Affine) → Contains self.old.facets f → value f p.now <ℤ pos 0
+            → self.new.corners ≡ self.old.corners ++ (p.now ∷ [])) }
+        ensures places { OnOk result ((k : ℕ) → All (λ f. pos 0 ≤ℤ value f p.now) (take k self.old.facets)
+            → take k self.new.facets ≡ take k self.old.facets) }
         ensures unchanged { OnErr result (self.new ≡ self.old) }
+        ensures wanted { OnErr result (InHull (dimension_of self.old.corners) self.old.corners p.now → ⊥) }
     {
         if self.is_inside(p) {
             return Ok(());

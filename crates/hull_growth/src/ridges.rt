@@ -52,7 +52,9 @@ pub(crate) fn is_ridge(corners: &[Point], facets: &FacetRows, i: usize, j: usize
     requires held { (n : ℕ) × IsHeld n corners.now facets.now.functions.items facets.now.rows.items }
     requires first { i < length facets.now.functions.items }
     requires second { j < length facets.now.functions.items }
-    ensures { (n : ℕ) (f g : Affine) → IsHeld n corners.now facets.now.functions.items facets.now.rows.items → f ≡ slice_index_or facets.now.functions.items i f → g ≡ slice_index_or facets.now.functions.items j g → IsTrue result ↔ IsRidge n corners.now f g }
+    ensures { (n : ℕ) (f g : Affine) → IsHeld n corners.now facets.now.functions.items facets.now.rows.items
+        → f ≡ slice_index_or facets.now.functions.items i f → g ≡ slice_index_or facets.now.functions.items j g
+        → IsTrue result ↔ IsRidge n corners.now f g }
 {
     if corners.len() > 128 {
         return is_alone_by_values(corners, &facets.functions, i, j);

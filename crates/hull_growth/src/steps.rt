@@ -49,8 +49,10 @@ fn add_combination(
     requires second { j < length facets.now.functions.items }
     requires before { (f : Affine) → f ≡ slice_index_or facets.now.functions.items i f → pos 0 <ℤ value f p.now }
     requires behind { (g : Affine) → g ≡ slice_index_or facets.now.functions.items j g → value g p.now <ℤ pos 0 }
-    requires ridge { (f g : Affine) → f ≡ slice_index_or facets.now.functions.items i f → g ≡ slice_index_or facets.now.functions.items j g → IsRidge (length p.now) corners.now f g }
-    ensures function { OnOk result ((f g : Affine) → f ≡ slice_index_or facets.now.functions.items i f → g ≡ slice_index_or facets.now.functions.items j g → IsAddedCombination f g p.now grown.old.functions.items grown.new.functions.items) }
+    requires ridge { (f g : Affine) → f ≡ slice_index_or facets.now.functions.items i f → g ≡ slice_index_or facets.now.functions.items j g
+        → IsRidge (length p.now) corners.now f g }
+    ensures function { OnOk result ((f g : Affine) → f ≡ slice_index_or facets.now.functions.items i f → g ≡ slice_index_or facets.now.functions.items j g
+        → IsAddedCombination f g p.now grown.old.functions.items grown.new.functions.items) }
     ensures rows { OnOk result (AreCornerRows (corners.now ++ (p.now ∷ [])) grown.new.functions.items grown.new.rows.items) }
 {
     let row = row_with(facets.rows[i] & facets.rows[j], corners.len(), 0);
@@ -73,7 +75,8 @@ fn add_new_with(
     requires rows { AreCornerRows (corners.now ++ (p.now ∷ [])) grown.old.functions.items grown.old.rows.items }
     requires first { i < length facets.now.functions.items }
     requires before { (f : Affine) → f ≡ slice_index_or facets.now.functions.items i f → pos 0 <ℤ value f p.now }
-    ensures functions { OnOk result ((f : Affine) → f ≡ slice_index_or facets.now.functions.items i f → Appends (IsNewWith corners.now p.now f facets.now.functions.items) grown.old.functions.items grown.new.functions.items) }
+    ensures functions { OnOk result ((f : Affine) → f ≡ slice_index_or facets.now.functions.items i f
+        → Appends (IsNewWith corners.now p.now f facets.now.functions.items) grown.old.functions.items grown.new.functions.items) }
     ensures rows { OnOk result (AreCornerRows (corners.now ++ (p.now ∷ [])) grown.new.functions.items grown.new.rows.items) }
 {
     for j in 0..facets.functions.len() {
@@ -95,7 +98,8 @@ pub(crate) fn add_new(
     requires step { IsGrowthStep corners.now facets.now.functions.items facets.now.rows.items p.now }
     requires values { AreValuesAt p.now facets.now.functions.items values.now }
     requires rows { AreCornerRows (corners.now ++ (p.now ∷ [])) grown.old.functions.items grown.old.rows.items }
-    ensures functions { OnOk result (Appends (IsNewOf corners.now p.now facets.now.functions.items facets.now.functions.items) grown.old.functions.items grown.new.functions.items) }
+    ensures functions { OnOk result (Appends (IsNewOf corners.now p.now facets.now.functions.items facets.now.functions.items)
+        grown.old.functions.items grown.new.functions.items) }
     ensures rows { OnOk result (AreCornerRows (corners.now ++ (p.now ∷ [])) grown.new.functions.items grown.new.rows.items) }
 {
     for i in 0..facets.functions.len() {
