@@ -13,7 +13,7 @@ use std::alloc::Global;
 use std::test::Fail;
 
 /// Adds the point with these entries, as many as `n`.
-fn add(points: &mut Vec<Point>, n: usize, entries: &[i64]) -> Result<(), NoMemory> {
+pub(crate) fn add(points: &mut Vec<Point>, n: usize, entries: &[i64]) -> Result<(), NoMemory> {
     if n <= entries.len() {
         if let Some(point) = Point::new(&entries[..n]) {
             points.push(point)?;
@@ -23,7 +23,7 @@ fn add(points: &mut Vec<Point>, n: usize, entries: &[i64]) -> Result<(), NoMemor
 }
 
 /// Adds the points with the value on one axis and 0 elsewhere, for each of the first axes.
-fn add_axes(points: &mut Vec<Point>, n: usize, value: i64) -> Result<(), NoMemory> {
+pub(crate) fn add_axes(points: &mut Vec<Point>, n: usize, value: i64) -> Result<(), NoMemory> {
     for axis in 0..n.min(6) {
         let mut entries = [0; 6];
         entries[axis] = value;
@@ -68,10 +68,10 @@ fn first_rows(alloc: Global, n: usize, rows: &[[i64; 6]; 7]) -> Result<Vec<Point
     Ok(points)
 }
 
-/// The corner of a cube, in five dimensions and 0 in the others, whose entries tell the number's bits.
+/// The corner of a cube in six dimensions whose entries tell the number's bits.
 fn corner(number: u32, side: i64) -> [i64; 6] {
     let mut entries = [0; 6];
-    for axis in 0..5_usize {
+    for axis in 0..6_usize {
         if (number >> axis) & 1 == 1 {
             entries[axis] = side;
         }
@@ -79,12 +79,12 @@ fn corner(number: u32, side: i64) -> [i64; 6] {
     entries
 }
 
-/// A cube in at most 5 dimensions: first some corners that aren't flat, then all of them.
+/// A cube in at most 6 dimensions: first some corners that aren't flat, then all of them.
 fn cube(alloc: Global, n: usize, side: i64) -> Result<Vec<Point>, NoMemory> {
     let mut points = Vec::new(alloc);
     add(&mut points, n, &[0; 6])?;
     add_axes(&mut points, n, side)?;
-    for number in 0..1_u32 << n.min(5) {
+    for number in 0..1_u32 << n.min(6) {
         add(&mut points, n, corner(number, side).as_slice())?;
     }
     Ok(points)
@@ -121,7 +121,11 @@ fn has_facets(alloc: Global, builder: &HullBuilder, points: &[Point]) -> Result<
 }
 
 /// The builder that is given the points one by one. It is `None` where its facets are others than those found at once for the points so far.
-fn built(alloc: Global, points: &[Point], count: usize) -> Result<Option<HullBuilder>, Fault>
+pub(crate) fn built(
+    alloc: Global,
+    points: &[Point],
+    count: usize,
+) -> Result<Option<HullBuilder>, Fault>
     requires points { ArePoints points.now }
     requires count { count ≡ dimension_of points.now + 1 }
     requires enough { count ≤ length points.now }
@@ -195,7 +199,10 @@ fn grows_to(
 }
 
 /// The facets and the vertices.
-fn hull_of(alloc: Global, points: &[Point]) -> Result<(Vec<Functional>, Vec<Point>), Fault>
+pub(crate) fn hull_of(
+    alloc: Global,
+    points: &[Point],
+) -> Result<(Vec<Functional>, Vec<Point>), Fault>
     requires { ArePoints points.now }
     ensures { OnOk result (AreSolidPoints points.now) }
 {
@@ -230,7 +237,11 @@ fn is_filled(
 }
 
 /// Whether the points have so many facets, vertices and lattice points, and all calls agree on them.
-fn agree(alloc: Global, points: &[Point], counts: (usize, usize, usize)) -> Result<bool, Fault> {
+pub(crate) fn agree(
+    alloc: Global,
+    points: &[Point],
+    counts: (usize, usize, usize),
+) -> Result<bool, Fault> {
     if !are_points(points) {
         return Ok(false);
     }
@@ -272,6 +283,7 @@ fn agree_on_cubes(rt: HostRuntime) -> Result<(), Fail> {
         (3, 2, 8, 27),
         (4, 2, 16, 81),
         (5, 1, 32, 32),
+        (6, 1, 64, 64),
     ] {
         let points = cube(rt.alloc(), n, side)?;
         assert!(rt;

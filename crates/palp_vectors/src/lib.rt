@@ -7,6 +7,8 @@
 #[cfg(test)]
 mod hulls;
 #[cfg(test)]
+mod large_hulls;
+#[cfg(test)]
 mod runs;
 #[cfg(test)]
 mod scans;

@@ -10,7 +10,10 @@ use std::alloc::Global;
 use std::test::Fail;
 
 /// The points with these entries.
-fn points_of<const N: usize>(alloc: Global, entries: &[[i64; N]]) -> Result<Vec<Point>, NoMemory> {
+pub(crate) fn points_of<const N: usize>(
+    alloc: Global,
+    entries: &[[i64; N]],
+) -> Result<Vec<Point>, NoMemory> {
     let mut points = Vec::new(alloc);
     for x in entries {
         if let Some(point) = Point::new(x.as_slice()) {

@@ -1,5 +1,8 @@
-use Rattle.std.proofs.Common.{◌≡◌, take}
+use Rattle.std.proofs.Common.{◌≡◌, ◌≤◌, take}
 use Rattle.palp_vectors.proofs.hulls.built.Given as goal
 
 abbrev pub invariant-loop-i : goal.invariant-loop-i
-invariant-loop-i l = l.builder.points ≡ take l.i l.points
+invariant-loop-i l = record {
+  same : l.builder.points ≡ take l.i l.points;
+  some : 1 ≤ l.i;
+}
