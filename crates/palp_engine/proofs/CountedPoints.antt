@@ -1,6 +1,6 @@
 -- What the counts of facets, vertices and lattice points say of points.
-use Rattle.std.specs.Prelude.{◌↔◌, min, ℤ}
-use Rattle.std.proofs.Common.{◌≡◌, ℕ, ◌+◌, ◌<◌, ◌≤◌, List, length, arith}
+use Rattle.std.specs.Prelude.{◌↔◌, ℤ}
+use Rattle.std.proofs.Common.{◌≡◌, ℕ, ◌<◌, ◌≤◌, List, length, arith}
 use Rattle.lattice_theory.specs.Affine.{Affine}
 use Rattle.lattice_theory.specs.Hull.{AreVertices}
 use Rattle.lattice_theory.specs.Facet.{IsFlat, AreFacets, AreFacetsInAnyOrder}
@@ -13,15 +13,14 @@ use Rattle.facet_theory.specs.Solid.{AreSolid}
 use Rattle.facet_theory.proofs.LeastVertex.{facets_of_vertices_lem}
 use Rattle.facet_theory.proofs.VertexHull.{some_vertex_lem, vertices_are_solid_lem, vertices_are_small_lem, lattice_points_of_vertices_lem}
 use Rattle.facet_theory.proofs.DilateBoxes.{first_dilate_is_hull_lem}
-use Rattle.item_points.specs.Points.{AreItemPoints}
+use Rattle.palp_input.specs.Grammar.{Listed, ListedWeights, ListedPoints}
+use Rattle.palp_input.specs.Items.{IsItem}
+use Rattle.item_points.specs.Points.{HasPoints, AreItemPoints}
+use Rattle.item_points.proofs.WeightPoints.{weight_points_are_few}
+use Rattle.item_points.proofs.WeightLattice.{weight_points_are_all}
 use Rattle.point_scan.specs.Dilates.{AreDilatePoints, CountsDilatePoints}
 use Rattle.palp_engine.specs.Reports.{body_line, HaveFewFacets, HaveFewVertices, HaveManyPoints, IsBodyLine}
-
--- the number of lattice points of points, up to a limit
-pub record CountsLatticePoints (n : ℕ) (points : List (List ℤ)) (limit counted : ℕ) : Type 0 where
-  pub lattice : List (List ℤ)
-  pub are_lattice_points : AreLatticePoints n points lattice
-  pub counted_is : counted ≡ min (length lattice) (limit + 1)
+use Rattle.palp_engine.specs.RunSteps.{CountsLatticePoints, AreAllAndFew, IsWeightLine}
 
 -- an item's points that aren't flat
 pub item_solid : (points : List (List ℤ)) → AreItemPoints points → (IsFlat (dimension_of points) points → ⊥)
@@ -81,6 +80,14 @@ module _ (n : ℕ) (points vertices : List (List ℤ)) (solid : AreSolid n point
     are_lattice_points = lattice_of_vertices c.lattice (rw first at c.are_dilate_points);
     counted_is = c.counted_is;
   }
+
+-- the points of a weight line are all lattice points
+pub line_points_all : (item : Listed) (points : List (List ℤ)) → IsItem item → IsWeightLine item → HasPoints item points → AreAllAndFew points
+line_points_all (ListedWeights systems) points i w h = record {
+  all = weight_points_are_all systems points i.well_formed h.are_points;
+  few = weight_points_are_few systems points h.are_points;
+}
+line_points_all (ListedPoints lines columns entries) points i w h = absurd w
 
 -- the facets and vertices of points that passed the steps before the lattice points
 pub record ArePassed (n : ℕ) (points : List (List ℤ)) (facets : List Affine) (vertices : List (List ℤ)) : Type 0 where

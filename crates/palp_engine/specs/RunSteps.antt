@@ -1,11 +1,15 @@
 -- What the steps of a run answer. This project's own.
-use Rattle.std.specs.Prelude.{◌≡◌, ℕ, List, Err}
+use Rattle.std.specs.Prelude.{◌≡◌, ℕ, ◌+◌, ◌≤◌, min, List, length, ℤ, Err}
+use Rattle.lattice_theory.specs.Points.{AreLatticePoints}
+use Rattle.lattice_core.specs.Dimensions.{dimension_of}
+use Rattle.lattice_core.specs.declared.limits.TheConstants.{MOST_POINTS}
 use Rattle.lattice_core.specs.declared.faults.Fault.{Fault}
 use Rattle.lattice_core.specs.declared.faults.Fault.TheVariants as stops
 use Rattle.palp_io.specs.Source.{SourceState}
 use Rattle.palp_io.specs.Sink.{SinkState}
 use Rattle.palp_words.specs.Words.{words_of}
 use Rattle.palp_words.specs.declared.job.Job.{Job}
+use Rattle.palp_input.specs.Grammar.{Listed, ListedWeights, ListedPoints}
 use Rattle.palp_input.specs.declared.fault.NextFault.{NextFault}
 use Rattle.palp_input.specs.declared.fault.NextFault.TheVariants.{Text, TooLong, Read, NoMemory as NoTextMemory}
 use Rattle.palp_engine.specs.Commands.{AreBuilt, AreUnbuilt}
@@ -14,6 +18,22 @@ use Rattle.palp_engine.specs.declared.outcome.Outcome.{Outcome}
 use Rattle.palp_engine.specs.declared.outcome.Outcome.TheVariants.{Done, BadWords, BadText, Refused, TextLimit, NotBuilt, ReadFault, WriteFault, NoMemory}
 use Rattle.palp_engine.specs.declared.session.ItemFault.{ItemFault}
 use Rattle.palp_engine.specs.declared.session.ItemFault.TheVariants as faults
+
+-- the number of lattice points of points, or limit + 1 where there are more than `limit`
+pub record CountsLatticePoints (n : ℕ) (points : List (List ℤ)) (limit counted : ℕ) : Type 0 where
+  pub lattice : List (List ℤ)
+  pub are_lattice_points : AreLatticePoints n points lattice
+  pub counted_is : counted ≡ min (length lattice) (limit + 1)
+
+-- the points are all lattice points of their hull, and few
+pub record AreAllAndFew (points : List (List ℤ)) : Type 0 where
+  pub all : AreLatticePoints (dimension_of points) points points
+  pub few : length points ≤ MOST_POINTS
+
+-- the item is a weight line
+abbrev pub IsWeightLine : Listed → Type 0
+IsWeightLine (ListedWeights systems) = Unit {0}
+IsWeightLine (ListedPoints lines columns entries) = ⊥
 
 -- a fault of the work on an item, as the fault of its report
 abbrev pub IsItemStop : Fault → ItemFault → Type 0

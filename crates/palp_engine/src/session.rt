@@ -1,6 +1,6 @@
 //! A session, and the report of one item.
 
-ghost use Rattle.std.specs.Prelude.{◌≡◌, ◌++◌, OnOk, MatchResult};
+ghost use Rattle.std.specs.Prelude.{◌≡◌, ◌↔◌, ◌++◌, IsTrue, OnOk, MatchResult};
 ghost use Rattle.lattice_core.specs.Stops.{Stops};
 ghost use Rattle.lattice_core.specs.Weights.{weighted_all};
 ghost use Rattle.palp_input.specs.Grammar.{listed};
@@ -9,6 +9,7 @@ ghost use Rattle.palp_input.specs.Systems.{numbers_in};
 ghost use Rattle.palp_engine.specs.Commands.{IsBuilt};
 ghost use Rattle.palp_engine.specs.Items.{IsPiece, IsItemRefused, echo, numbers_text};
 ghost use Rattle.palp_engine.specs.Entries.{item_entry};
+ghost use Rattle.palp_engine.specs.RunSteps.{IsWeightLine};
 ghost use Rattle.palp_engine.specs.Sessions.{EntryMeans};
 
 use crate::polytopes::body_of;
@@ -101,6 +102,16 @@ fn put_echo(page: &mut Vec<u8>, item: &Item) -> Result<(), NoMemory>
     }
 }
 
+/// Whether the item is a weight line, whose points are all lattice points of their hull.
+fn is_weight_line(item: &Item) -> bool
+    ensures { IsTrue result ↔ IsWeightLine (listed item.now) }
+{
+    match item {
+        Item::Weights(_) => true,
+        Item::Points(_) => false,
+    }
+}
+
 /// Writes the piece of an item on a page, in place of what stood there, or answers its refusal.
 fn write_piece(alloc: Global, page: &mut Vec<u8>, item: &Item) -> Result<(), Fault>
     requires { IsItem (listed item.now) }
@@ -109,7 +120,7 @@ fn write_piece(alloc: Global, page: &mut Vec<u8>, item: &Item) -> Result<(), Fau
     page.clear();
     put_echo(page, item)?;
     let points = points_of_item(alloc, item)?;
-    let line = body_of(alloc, &points)?;
+    let line = body_of(alloc, &points, is_weight_line(item))?;
     page.extend_from_slice(line.as_slice())?;
     Ok(())
 }

@@ -6,34 +6,21 @@ use Rattle.lattice_core.specs.Stops.{Stops}
 use Rattle.hull.specs.Faults.{IsFacetsRefusal, IsVerticesRefusal}
 use Rattle.palp_engine.specs.Reports.{HaveFewFacets, many_points}
 use Rattle.palp_engine.proofs.HullStops.{facets_stop, vertices_stop}
-use Rattle.palp_engine.proofs.CountedPoints.{ArePassed, item_solid, solid_vertices, vertices_facets, counts_lattice, many_counted, few_counted}
+use Rattle.palp_engine.proofs.CountedPoints.{ArePassed, many_counted, few_counted}
 use Rattle.palp_engine.proofs.polytopes.body_of.Goals as goal
 
 pub vertices_of-requires-clause-facets : goal.vertices_of-requires-clause-facets
 vertices_of-requires-clause-facets c = rw c.as_slice.ensures.value c.in_ok-facets.ensures.facets.members
 
-pub count_to-requires-clause-vertices : goal.count_to-requires-clause-vertices
-count_to-requires-clause-vertices c =
-    let points = c.args.points.now in
-    let solid = item_solid points c.requires c.in_ok-facets.ensures.solid.solid in
-    rw c.as_slice-2.ensures.value
-    (solid_vertices (dimension_of points) points c.in_ok-vertices.vertices.items solid c.in_ok-vertices.ensures.vertices
-    c.requires.sized.within)
-
-pub count_to-requires-clause-facets : goal.count_to-requires-clause-facets
-count_to-requires-clause-facets c =
-    let points = c.args.points.now in
-    let solid = item_solid points c.requires c.in_ok-facets.ensures.solid.solid in
-    rw (c.as_slice-2.ensures.value, c.as_slice-3.ensures.value)
-    (vertices_facets (dimension_of points) points c.in_ok-vertices.vertices.items solid c.in_ok-vertices.ensures.vertices
-    c.in_ok-facets.facets.items c.in_ok-facets.ensures.facets.members)
+pub lattice_point_count-requires-clause-facets : goal.lattice_point_count-requires-clause-facets
+lattice_point_count-requires-clause-facets c = rw c.deref-2.ensures.value c.in_ok-facets.ensures.facets.members
 
 pub returns-in_err-facets : goal.returns-in_err-facets
 returns-in_err-facets c =
     let n = dimension_of c.args.points.now in
     let e = err_from_is_err_and c.from_residual.result c.from_residual.ensures.1 in
     let refused = subst (Stops (IsFacetsRefusal n c.args.points.now)) (sym e.2) c.in_err-facets.ensures.refused in
-    rw e.1 (facets_stop n c.args.points.now e.0 c.requires.sized.within refused)
+    rw e.1 (facets_stop n c.args.points.now e.0 c.requires.points.sized.within refused)
 
 pub returns-in_err-vertices : goal.returns-in_err-vertices
 returns-in_err-vertices c =
@@ -62,10 +49,8 @@ returns-then-count-most c =
       are_vertices = c.in_ok-vertices.ensures.vertices;
       few_vertices = c.in_ok-vertices.ensures.few;
     } in
-    let solid = item_solid points c.requires c.in_ok-facets.ensures.solid.solid in
-    let counts = counts_lattice n points vertices solid c.in_ok-vertices.ensures.vertices 16384 c.in_ok-count.count
-    (rw c.as_slice-2.ensures.value at c.in_ok-count.ensures) in
-    many_points (many_counted n points facets vertices passed c.in_ok-count.count counts c.from.result c.if-count-most.true c.from.ensures)
+    many_points (many_counted n points facets vertices passed c.in_ok-count.count c.in_ok-count.ensures c.from.result
+    c.if-count-most.true c.from.ensures)
 
 pub returns : goal.returns
 returns c =
@@ -80,10 +65,8 @@ returns c =
       are_vertices = c.in_ok-vertices.ensures.vertices;
       few_vertices = c.in_ok-vertices.ensures.few;
     } in
-    let solid = item_solid points c.requires c.in_ok-facets.ensures.solid.solid in
-    let counts = counts_lattice n points vertices solid c.in_ok-vertices.ensures.vertices 16384 c.in_ok-count.count
-    (rw c.as_slice-2.ensures.value at c.in_ok-count.ensures) in
     let vertex_count : c.len.result ≡ length vertices = search rules in
     let facet_count : c.len-2.result ≡ length facets = search rules in
-    few_counted n points facets vertices passed c.in_ok-count.count counts c.body_line.result.items (omega (arith, c.if-count-most.false))
+    few_counted n points facets vertices passed c.in_ok-count.count c.in_ok-count.ensures c.body_line.result.items
+    (omega (arith, c.if-count-most.false))
     (rw (← vertex_count, ← facet_count) c.body_line.ensures)
