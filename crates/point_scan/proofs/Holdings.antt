@@ -10,7 +10,7 @@ use Rattle.region_walk.specs.declared.region.Region.{Region}
 use Rattle.point_scan.specs.ScanSteps.{HoldsDilate}
 
 -- the value of a dilated function
-dilated_value : (f g : Affine) (j : ℕ) (x : List ℤ) → g.normal ≡ f.normal → g.constant ≡ pos j *ℤ f.constant → value g x ≡ value_over f x (pos j)
+pub dilated_value : (f g : Affine) (j : ℕ) (x : List ℤ) → g.normal ≡ f.normal → g.constant ≡ pos j *ℤ f.constant → value g x ≡ value_over f x (pos j)
 dilated_value f g j x e h = ap₂ (λ (a : List ℤ) (c : ℤ). dot a x +ℤ c) e h
 
 module _ (n : ℕ) (points : List (List ℤ)) (j : ℕ) (functions : List Affine) (i : ℕ) (f g : Affine) (old new : Region)

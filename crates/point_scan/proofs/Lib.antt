@@ -4,6 +4,7 @@ pub mod AbsoluteSums
 pub mod Constants
 pub mod DilatePoints
 pub mod Holdings
+pub mod BoundSteps
 pub mod Scans
 pub mod RunPoints
 pub mod Visiting

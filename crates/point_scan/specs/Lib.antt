@@ -1,4 +1,5 @@
 pub mod Dilates
 pub mod ScanSteps
+pub mod ProjectionSteps
 pub mod Faults
 pub mod Visits

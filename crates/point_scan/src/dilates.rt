@@ -8,6 +8,7 @@ ghost use Rattle.point_scan.specs.ScanSteps.{HoldsDilate};
 ghost use Rattle.point_scan.specs.declared.limits.TheConstants.{MOST_DILATE};
 
 use crate::corners::corners_of;
+use crate::projections::bounds_of;
 use lattice_core::{Functional, NoMemory, Point};
 use region_walk::Region;
 use std::alloc::Global;
@@ -36,8 +37,8 @@ fn box_region(alloc: Global, vertices: &[Point], dilate: u32) -> Result<Region, 
     Ok(region)
 }
 
-/// The lattice points of the dilate.
-pub(crate) fn dilate_region(
+/// The points of the box at which the facets are nonnegative.
+fn facet_region(
     alloc: Global,
     vertices: &[Point],
     facets: &[Functional],
@@ -51,6 +52,26 @@ pub(crate) fn dilate_region(
     let mut region = box_region(alloc, vertices, dilate)?;
     for facet in facets {
         region.add(dilated(facet, dilate))?;
+    }
+    Ok(region)
+}
+
+/// The lattice points of the dilate, with the bounds of its projections.
+pub(crate) fn dilate_region(
+    alloc: Global,
+    vertices: &[Point],
+    facets: &[Functional],
+    dilate: u32,
+) -> Result<Region, NoMemory>
+    requires vertices { AreSolidPoints vertices.now }
+    requires facets { AreFacetsInAnyOrder (dimension_of vertices.now) vertices.now facets.now }
+    requires dilate { dilate ≤ MOST_DILATE }
+    ensures { IfOk result (HoldsDilate (dimension_of vertices.now) vertices.now dilate facets.now) }
+{
+    let mut region = facet_region(alloc, vertices, facets, dilate)?;
+    let bounds = bounds_of(alloc, vertices, facets)?;
+    for i in facets.len()..bounds.len() {
+        region.add(dilated(&bounds[i].function, dilate))?;
     }
     Ok(region)
 }

@@ -6,10 +6,13 @@
 //! Its central theorem: `scan` gives exactly the lattice points, each once and in order, and `count_to` counts exactly those of a dilate.
 #![tactic(auto)]
 
+mod bounds;
 mod corners;
 mod dilates;
+mod eliminations;
 mod limits;
 mod points;
+mod projections;
 mod runs;
 mod spans;
 mod visits;
