@@ -11,7 +11,8 @@ use Rattle.hull.specs.declared.candidates.Candidate.{Candidate}
 use Rattle.hull.specs.steps.Tight.{LiesWith, LiesAlone, IsTightRow, HasVertices}
 use Rattle.hull.specs.steps.Candidates.{IsAbove, IsLone, LiesAbove, AreCandidates}
 use Rattle.hull.proofs.TightRows.{part_is_with}
-use Rattle.hull.proofs.VertexSearch.{contains_more, vertex_alone}
+use Rattle.hull_growth.proofs.Appending.{contains_more}
+use Rattle.hull.proofs.VertexSearch.{vertex_alone}
 
 -- a fact of each member, from one of each that the list contains
 all_contained : {X : Type 0} (P : X → Type 0) (xs : List X) → ((x : X) → Contains xs x → P x) → All P xs

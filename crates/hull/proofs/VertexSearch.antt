@@ -1,7 +1,6 @@
 -- When a point is a vertex, and what the loop over the points keeps.
-use Rattle.std.proofs.Common.{◌≡◌, ◌↔◌, ℕ, zero, suc, ◌+◌, ◌*◌, ◌^◌, ◌<◌, ◌≤◌, List, [], ◌∷◌, ◌++◌, length, get_or, take, ℤ, pos, negsuc, ◌+ℤ◌, ◌≤ℤ◌, ◌⊎◌, inl, inr, ⊎_elim, refl, sym, ap, subst, ◌∙◌, arith, All, Contains}
-use Rattle.std.specs.Prelude.{nat_abs, ◌-◌}
-use Rattle.std.proofs.Math.Nat.{mul-le-mul_right}
+use Rattle.std.proofs.Common.{◌≡◌, ◌↔◌, ℕ, zero, suc, ◌+◌, ◌<◌, ◌≤◌, List, [], ◌∷◌, ◌++◌, length, get_or, take, ℤ, pos, negsuc, ◌+ℤ◌}
+use Rattle.std.proofs.Common.{◌≤ℤ◌, inl, inr, ⊎_elim, refl, sym, ap, subst, ◌∙◌, arith, All, Contains}
 use Rattle.std.proofs.lemmas.List.Elements.{All-contains, All-weaker, All-contains_itself, Contains-append_left, Contains-push, Contains-push_cases}
 use Rattle.lattice_theory.specs.Vector.{HaveDimension, others}
 use Rattle.lattice_theory.specs.Affine.{Affine, value, IsNonnegative}
@@ -14,39 +13,19 @@ use Rattle.lattice_theory.proofs.Members.{Each, empty, more, each_from_all, all_
 use Rattle.facet_theory.specs.Solid.{AreSolid}
 use Rattle.facet_theory.proofs.Vertices.{vertices_by_facets_lem}
 use Rattle.normal_bounds.proofs.Sizes.{point_absolute_sum_lem}
-use Rattle.normal_bounds.proofs.Numbers.{entries_fit_lem}
 use Rattle.hull.specs.steps.Tight.{LiesWith, LiesAlone, HasVertices}
-use Rattle.lattice_core.specs.Limits.{IsSized}
 use Rattle.lattice_core.specs.ValueWidths.{FitsWidth, Serves}
 use Rattle.lattice_core.specs.declared.value_widths.Width.{Width}
-use Rattle.lattice_core.proofs.SizeLimits.{limit_bound}
-use Rattle.hull.proofs.Pivots.{take_more}
 use Rattle.hull.proofs.FacetBounds.{facets_bounded_lem}
-use Rattle.hull_growth.proofs.Small.{solid_at, no_facet}
-
--- a list with one more member contains that one and what it contained
-pub contains_more : {X : Type 0} (xs : List X) (i : ℕ) (x y : X) → i < length xs → x ≡ get_or xs i x
-    → Contains (take (i + 1) xs) y ↔ (Contains (take i xs) y ⊎ (x ≡ y))
-contains_more xs i x y h e = subst (λ zs. Contains zs y ↔ (Contains (take i xs) y ⊎ (x ≡ y))) (sym (take_more xs i x h e)) (there, back)
-  where
-    there : Contains (take i xs ++ (x ∷ [])) y → Contains (take i xs) y ⊎ (x ≡ y)
-    there c = Contains-push_cases (take i xs) x y c
-
-    back : Contains (take i xs) y ⊎ (x ≡ y) → Contains (take i xs ++ (x ∷ [])) y
-    back (inl c) = Contains-append_left (take i xs) (x ∷ []) y c
-    back (inr i') = subst (Contains (take i xs ++ (x ∷ []))) i' (Contains-push (take i xs) x)
+use Rattle.hull_growth.proofs.Appending.{contains_more}
+use Rattle.hull_growth.proofs.Inside.{no_coordinates}
+use Rattle.hull_growth.proofs.Small.{solid_at}
 
 -- the facets' dimension
 pub facets_dimension : (n : ℕ) (points : List (List ℤ)) (facets : List Affine) → AreFacetsInAnyOrder n points facets
     → All (λ f. length f.normal ≡ n) facets
 facets_dimension n points facets h = All-weaker (Contains facets) (λ f. length f.normal ≡ n) (λ f c. ((h f).0 c).dimension) facets
     (All-contains_itself facets)
-
--- two vectors without coordinates are the same
-no_coordinates : (x y : List ℤ) → length x ≡ 0 → length y ≡ 0 → x ≡ y
-no_coordinates [] [] e h = refl
-no_coordinates [] (b ∷ y) e h = absurd (omega arith)
-no_coordinates (a ∷ x) y e h = absurd (omega arith)
 
 -- so there are no others
 no_others : (points : List (List ℤ)) (v : List ℤ) → Each (λ p. length p ≡ 0) points → length v ≡ 0 → others points v ≡ []
@@ -68,26 +47,6 @@ vertex_without points v d c = record { member = c; outside = λ h. outside h }
     outside : InHull 0 (others points v) v → ⊥
     outside h = below (h (record { normal = []; constant = negsuc 0 }) refl
         (subst (λ (ps : List (List ℤ)). IsNonnegative ps (record { normal = []; constant = negsuc 0 })) (sym none) (all_from_each empty)))
-
--- a product of a small entry and a small size
-product_small : (c p m : ℕ) → c ≤ p * m → p < 2 ^ 63 → m ≤ 2 ^ 30 → c ≤ 2 ^ 100
-product_small c p m h k l = omega (arith, mul-le-mul_right {m = p} {n = 2 ^ 63} m (omega arith))
-
--- the facets' constants are small
-pub facets_constants : (n : ℕ) (points : List (List ℤ)) (facets : List Affine) → HaveDimension n points → (IsFlat n points → ⊥)
-    → IsSized n points → AreFacetsInAnyOrder n points facets → All (λ f. nat_abs f.constant ≤ 2 ^ 100) facets
-facets_constants zero points facets d s k h = All-weaker (Contains facets) (λ f. nat_abs f.constant ≤ 2 ^ 100)
-    (λ f c. absurd (no_facet f points ((h f).0 c))) facets (All-contains_itself facets)
-facets_constants (suc k) points facets d s t h = All-weaker (Contains facets) (λ f. nat_abs f.constant ≤ 2 ^ 100) small facets
-    (All-contains_itself facets)
-  where
-    power : (2 * size (suc k) points) ^ (suc k - 1) < 2 ^ 63
-    power = entries_fit_lem (suc k) (suc k - 1) (size (suc k) points) (omega arith) (omega arith)
-
-    small : (f : Affine) → Contains facets f → nat_abs f.constant ≤ 2 ^ 100
-    small f c = product_small (nat_abs f.constant) ((2 * size (suc k) points) ^ (suc k - 1)) (size (suc k) points)
-        (facets_bounded_lem (suc k) points (solid_at k points d s) f ((h f).0 c)).constant power (let b = limit_bound (suc k) in
-        omega arith)
 
 -- the facets' values at the points fit the width that serves the points' size
 pub facets_fit : (n : ℕ) (points : List (List ℤ)) (facets : List Affine) (width : Width) → 1 ≤ n → HaveDimension n points

@@ -5,7 +5,8 @@ use Rattle.std.proofs.lemmas.List.Elements.{All-contains}
 use Rattle.lattice_theory.specs.Size.{absolute_sum}
 use Rattle.lattice_core.specs.Dimensions.{dimension_of}
 use Rattle.hull_growth.proofs.Small.{points_bound}
-use Rattle.hull.proofs.VertexSearch.{facets_constants, vertex_alone, turn_added, turn_kept}
+use Rattle.hull_growth.proofs.Small.{facets_constants}
+use Rattle.hull.proofs.VertexSearch.{vertex_alone, turn_added, turn_kept}
 use Rattle.hull.specs.steps.Tight.{HasVertices}
 use Rattle.hull.proofs.vertices.vertices_by_values.Goals as goal
 use Rattle.hull.proofs.vertices.vertices_by_values.Goals.{After-v-item, then-is_vertex+in_ok-push, else-is_vertex}
