@@ -1,6 +1,7 @@
 -- Functions with the members of a kernel as normals: hyperplanes, flat functions, and opposite functions.
 use Rattle.std.specs.Prelude.{nat_abs}
-use Rattle.std.proofs.Common.{◌≡◌, ◌≢◌, ◌⊎◌, ℕ, zero, suc, ◌^◌, ◌<◌, ◌≤◌, List, [], ◌∷◌, length, get_or, map, ℤ, pos, negsuc, neg_ℤ, ◌+ℤ◌, ◌*ℤ◌, ◌<ℤ◌, inl, inr, ⊎_elim, refl, sym, ap, ap₂, ◌∙◌, subst, All, Contains, arith}
+use Rattle.std.proofs.Common.{◌≡◌, ◌≢◌, ◌⊎◌, ℕ, zero, suc, ◌^◌, ◌<◌, ◌≤◌, List, [], ◌∷◌, length, get_or, map, ℤ, pos, negsuc, neg_ℤ, ◌+ℤ◌, ◌*ℤ◌}
+use Rattle.std.proofs.Common.{◌<ℤ◌, inl, inr, ⊎_elim, refl, sym, ap, ap₂, ◌∙◌, subst, All, Contains, arith}
 use Rattle.std.proofs.lemmas.List.Elements.{All-contains, All-weaker}
 use Rattle.lattice_theory.specs.Vector.{entry, dot, scaled, IsPrimitive, HaveDimension, IsVectorMultiple}
 use Rattle.lattice_theory.specs.Affine.{Affine, value, Vanishes, IsMultiple}

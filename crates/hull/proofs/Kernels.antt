@@ -1,5 +1,6 @@
 -- Kernels as the program finds them: how small they are, where they start, and what a step makes of them.
-use Rattle.std.proofs.Common.{◌≡◌, ◌≢◌, ℕ, suc, ◌+◌, ◌*◌, ◌^◌, ◌<◌, ◌≤◌, List, [], ◌∷◌, ◌++◌, length, map, get_or, ℤ, pos, ◌*ℤ◌, ◌<ℤ◌, refl, sym, ap, ap₂, ◌∙◌, subst, All, Contains, arith, length-append}
+use Rattle.std.proofs.Common.{◌≡◌, ◌≢◌, ℕ, suc, ◌+◌, ◌*◌, ◌^◌, ◌<◌, ◌≤◌, List, [], ◌∷◌, ◌++◌, length, map, get_or, ℤ, pos, ◌*ℤ◌, ◌<ℤ◌}
+use Rattle.std.proofs.Common.{refl, sym, ap, ap₂, ◌∙◌, subst, All, Contains, arith, length-append}
 use Rattle.std.specs.Prelude.{nat_abs}
 use Rattle.std.specs.List.{AllZip}
 use Rattle.std.proofs.lemmas.List.Elements.{All-contains, All-weaker, All-contains_itself, All-append, length_all_zip}
@@ -9,7 +10,8 @@ use Rattle.lattice_theory.specs.Size.{absolute_sum}
 use Rattle.lattice_theory.specs.Order.{Ascends}
 use Rattle.elimination.specs.Elimination.{Member, IsUnitMember, IsReduced, AreApart}
 use Rattle.elimination.proofs.KernelLaws.{kernel_starts_lem, kernel_stays_lem, kernel_steps_lem}
-use Rattle.lattice_theory.proofs.Members.{Each, empty, more, here, there, each_from_all, all_from_each, each_left, each_right, each_append, each_tail, in_from_contains, contains_from_in, in_append_right}
+use Rattle.lattice_theory.proofs.Members.{Each, empty, more, here, there, each_from_all, all_from_each, each_left, each_right, each_append}
+use Rattle.lattice_theory.proofs.Members.{each_tail, in_from_contains, contains_from_in, in_append_right}
 use Rattle.lattice_theory.proofs.Divisibility.{primitive_from_combination}
 use Rattle.lattice_theory.proofs.Vectors.{unit, dot-unit}
 use Rattle.normal_bounds.proofs.Products.{members_fit_lem, step_products_fit_lem}

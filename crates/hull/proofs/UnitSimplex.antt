@@ -1,5 +1,6 @@
 -- A point and the points one unit step from it are a simplex, which is no larger than points that aren't flat.
-use Rattle.std.proofs.Common.{◌≡◌, ◌≢◌, ◌⊎◌, inl, inr, ⊎_elim, ℕ, zero, suc, ◌+◌, ◌<◌, ◌≤◌, ◌==◌, List, [], length, true, false, ℤ, pos, negsuc, ◌+ℤ◌, ◌-ℤ◌, ◌*ℤ◌, neg_ℤ, ◌<ℤ◌, refl, sym, ap, ◌∙◌, subst, arith, All, Contains}
+use Rattle.std.proofs.Common.{◌≡◌, ◌≢◌, ◌⊎◌, inl, inr, ⊎_elim, ℕ, zero, suc, ◌+◌, ◌<◌, ◌≤◌, ◌==◌, List, [], length, true, false, ℤ, pos, negsuc}
+use Rattle.std.proofs.Common.{◌+ℤ◌, ◌-ℤ◌, ◌*ℤ◌, neg_ℤ, ◌<ℤ◌, refl, sym, ap, ◌∙◌, subst, arith, All, Contains}
 use Rattle.std.specs.Prelude.{nat_abs}
 use Rattle.std.proofs.lemmas.Int.{ints}
 use Rattle.std.proofs.lemmas.Bool.{cases_lt}
@@ -12,7 +13,8 @@ use Rattle.lattice_theory.specs.Size.{reach}
 use Rattle.lattice_theory.specs.Facet.{IsFlat}
 use Rattle.lattice_theory.proofs.Integers.{products_out, linear, factor_zero}
 use Rattle.lattice_theory.proofs.Members.{in_from_contains}
-use Rattle.lattice_theory.proofs.Vectors.{unit, length-unit, entry-unit_same, entry-unit_other, dot-unit, dot_comm, dot-scaled_right, entry-scaled, length-scaled, same_from_entries, entry_past}
+use Rattle.lattice_theory.proofs.Vectors.{unit, length-unit, entry-unit_same, entry-unit_other, dot-unit, dot_comm, dot-scaled_right}
+use Rattle.lattice_theory.proofs.Vectors.{entry-scaled, length-scaled, same_from_entries, entry_past}
 use Rattle.lattice_theory.proofs.Divisibility.{divides_one, divides_minus_one}
 use Rattle.lattice_theory.proofs.Sizes.{within_reach}
 use Rattle.facet_theory.specs.Solid.{AreSolid}

@@ -99,7 +99,8 @@ pub(crate) fn changed_kernel(
     requires some { 1 ≤ length v.now }
     requires most { length v.now ≤ MOST_COORDINATES }
     requires small { absolute_sum v.now ≤ 2 * size_limit_of (length v.now) }
-    ensures kernel { IfSome result (λ next. (vs : List (List ℤ)) → IsPrimitiveKernel (length v.now) vs kernel.now → IsPrimitiveKernel (length v.now) (vs ++ (v.now ∷ [])) next.items) }
+    ensures kernel { IfSome result (λ next. (vs : List (List ℤ)) → IsPrimitiveKernel (length v.now) vs kernel.now
+        → IsPrimitiveKernel (length v.now) (vs ++ (v.now ∷ [])) next.items) }
     ensures count { IfSome result (λ next. length next.items + 1 ≡ length kernel.now) }
     ensures stays { IfNone result (All (λ k. dot k.vector v.now ≡ pos 0) kernel.now) }
 {

@@ -1,5 +1,6 @@
 -- How small the points, the facets and the combinations of a step are.
-use Rattle.std.proofs.Common.{◌≡◌, ⊎_elim, inl, inr, ℕ, zero, suc, ◌*◌, ◌^◌, ◌<◌, ◌≤◌, List, [], ◌∷◌, ◌++◌, length, ℤ, pos, ◌<ℤ◌, ◌+ℤ◌, ◌*ℤ◌, negsuc, refl, sym, subst, All, Contains, arith}
+use Rattle.std.proofs.Common.{◌≡◌, ⊎_elim, inl, inr, ℕ, zero, suc, ◌*◌, ◌^◌, ◌<◌, ◌≤◌, List, [], ◌∷◌, ◌++◌, length, ℤ, pos, ◌<ℤ◌}
+use Rattle.std.proofs.Common.{◌+ℤ◌, ◌*ℤ◌, negsuc, refl, sym, subst, All, Contains, arith}
 use Rattle.std.specs.Prelude.{nat_abs, ◌-◌}
 use Rattle.std.proofs.lemmas.Int.{ints}
 use Rattle.std.proofs.lemmas.Bool.{cases_lt}

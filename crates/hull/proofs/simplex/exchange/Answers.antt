@@ -4,7 +4,8 @@ use Rattle.lattice_theory.specs.Affine.{Affine, value}
 use Rattle.lattice_core.specs.Dimensions.{dimension_of}
 use Rattle.hull.specs.steps.Tight.{function_of}
 use Rattle.hull.specs.steps.Facing.{IsReachedBy, IsTurned}
-use Rattle.hull.proofs.SimplexTurns.{point_reached, exchange_point, exchange_constant, exchange_entries, exchange_function, turnable, none_turned, one_turned, own_skipped, exchanged_simplex, IsTurnedBelow}
+use Rattle.hull.proofs.SimplexTurns.{point_reached, exchange_point, exchange_constant, exchange_entries, exchange_function, turnable}
+use Rattle.hull.proofs.SimplexTurns.{none_turned, one_turned, own_skipped, exchanged_simplex, IsTurnedBelow}
 use Rattle.hull.proofs.simplex.exchange.Goals as goal
 use Rattle.hull.proofs.simplex.exchange.Goals.{then-i-place, else-i-place}
 

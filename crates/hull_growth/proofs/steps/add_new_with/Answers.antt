@@ -9,7 +9,8 @@ use Rattle.hull_growth.proofs.ValueLists.{value_of, function_at, stands_there}
 use Rattle.hull_growth.proofs.Appending.{both_same}
 use Rattle.hull_growth.proofs.NewFacetTurns.{HasNewWith, with_none, with_added, with_same, no_negative}
 use Rattle.hull_growth.proofs.steps.add_new_with.Goals as goal
-use Rattle.hull_growth.proofs.steps.add_new_with.Goals.{then-values-j-lt0+then-is_ridge+in_ok-add_combination, else-values-j-lt0, else-values-j-lt0-via-then-values-j-lt0+else-is_ridge, else-values-j-lt0-via-else-values-j-lt0}
+use Rattle.hull_growth.proofs.steps.add_new_with.Goals.{then-values-j-lt0+then-is_ridge+in_ok-add_combination, else-values-j-lt0}
+use Rattle.hull_growth.proofs.steps.add_new_with.Goals.{else-values-j-lt0-via-then-values-j-lt0+else-is_ridge, else-values-j-lt0-via-else-values-j-lt0}
 
 pub loop-j-init : goal.loop-j-init
 loop-j-init c = (
