@@ -1,7 +1,7 @@
 -- The turns of the loops that list the new facets, and the facets with one more point.
 use Rattle.std.proofs.Common.{◌≡◌, ◌≢◌, ◌⊎◌, ◌↔◌, inl, inr, ⊎_elim, ℕ, suc, ◌+◌, ◌^◌, ◌<◌, ◌≤◌, List, [], ◌∷◌, ◌++◌, length, get_or, take, drop, ℤ}
 use Rattle.std.proofs.Common.{pos, ◌≤ℤ◌, ◌<ℤ◌, refl, sym, ap, ◌∙◌, subst, Contains, append_assoc, append-nil, arith}
-use Rattle.std.specs.Prelude.{not, int_lt, true, false, Bool, cond, bit_and, bit_or}
+use Rattle.std.specs.Prelude.{not, int_lt, true, false, Bool, cond}
 use Rattle.std.specs.List.{All, AllPairs}
 use Rattle.std.proofs.lemmas.Int.{ints}
 use Rattle.std.proofs.lemmas.List.{take-append-drop, length-take, take-append-le, take_all}
@@ -20,9 +20,10 @@ use Rattle.ridge_theory.proofs.Pairs.{pair_parts, pair_zero}
 use Rattle.ridge_theory.proofs.OneMore.{facets_of_one_more_lem}
 use Rattle.ridge_theory.proofs.NewFacets.{new_facets_are_new_lem, new_facets_differ_lem}
 use Rattle.hull_growth.specs.Grown.{HasFacets}
-use Rattle.hull_growth.specs.steps.Rows.{IsCornerRow, AreCornerRows}
+use Rattle.bit_rows.specs.declared.row.TheConstants.{MOST_INDICES}
+use Rattle.hull_growth.specs.steps.Rows.{AddsIndex, IsCornerRow, AreCornerRows}
 use Rattle.hull_growth.specs.steps.Growing.{IsGrowthStep, IsAddedCombination, Appends, kept_at, IsNewWith, IsNewOf}
-use Rattle.hull_growth.proofs.RowBits.{row_more, row_meet, rows_push}
+use Rattle.hull_growth.proofs.RowBits.{IsMeet, row_more, row_meet, rows_push}
 use Rattle.hull_growth.proofs.Small.{one_more, step_solid}
 use Rattle.hull_growth.proofs.Appending.{same_at, contains_more, not_before, appends_none, appends_one, appends_same, appends_more, pairs_append}
 
@@ -265,16 +266,16 @@ kept_same p fs old new i f l e h so_far =
 module _ (corners : List (List ℤ)) (fs : List Affine) (rows : List ℕ) (p : List ℤ) (s : IsGrowthStep corners fs rows p) where
   -- the row of a facet that stays
   kept_row : (f : Affine) (i x new : ℕ) (v : ℤ) → i < length fs → f ≡ get_or fs i f → x ≡ get_or rows i x → v ≡ value f p
-      → (v ≡ pos 0 → length corners < 128 → new ≡ bit_or x (2 ^ length corners)) → (v ≢ pos 0 → new ≡ x)
-      → (128 ≤ length corners → new ≡ x) → IsCornerRow (corners ++ (p ∷ [])) f new
+      → (v ≡ pos 0 → length corners < MOST_INDICES → AddsIndex x (length corners) new) → (v ≢ pos 0 → new ≡ x)
+      → (MOST_INDICES ≤ length corners → new ≡ x) → IsCornerRow (corners ++ (p ∷ [])) f new
   kept_row f i x new v l e ex ev set same full = row_more corners p f (length corners) x new refl (s.held.rows.each i f x l e ex)
       (λ z. set (ev ∙ z)) (λ u. same (λ z. u (sym ev ∙ z))) full
 
   -- the turn at a facet that stays
   pub kept_turn : (old so_far : List Affine) (bits : List ℕ) (i x new : ℕ) (f h : Affine) (v : ℤ) → i < length fs → f ≡ get_or fs i f
       → h ≡ get_or fs i h → x ≡ get_or rows i x → v ≡ value f p → pos 0 ≤ℤ v
-      → (v ≡ pos 0 → length corners < 128 → new ≡ bit_or x (2 ^ length corners)) → (v ≢ pos 0 → new ≡ x)
-      → (128 ≤ length corners → new ≡ x)
+      → (v ≡ pos 0 → length corners < MOST_INDICES → AddsIndex x (length corners) new) → (v ≢ pos 0 → new ≡ x)
+      → (MOST_INDICES ≤ length corners → new ≡ x)
       → (so_far ≡ old ++ kept_at p (take i fs)) × AreCornerRows (corners ++ (p ∷ [])) so_far bits
       → (so_far ++ (h ∷ []) ≡ old ++ kept_at p (take (i + 1) fs)) × AreCornerRows (corners ++ (p ∷ [])) (so_far ++ (h ∷ [])) (bits ++ (new ∷ []))
   kept_turn old so_far bits i x new f h v l e eh ex ev low set same full inv =
@@ -293,13 +294,13 @@ module _ (corners : List (List ℤ)) (fs : List Affine) (rows : List ℕ) (p : L
       (kept_same p fs old so_far i f l e (subst (λ (z : ℤ). z <ℤ pos 0) ev low) inv.0, inv.1)
 
   -- the row of a combination
-  pub new_row : (f g h : Affine) (i j x y new : ℕ) → i < length fs → j < length fs → f ≡ get_or fs i f → g ≡ get_or fs j g
-      → x ≡ get_or rows i x → y ≡ get_or rows j y → IsCombinationAt f g p h
-      → (length corners < 128 → new ≡ bit_or (bit_and x y) (2 ^ length corners)) → (128 ≤ length corners → new ≡ bit_and x y)
+  pub new_row : (f g h : Affine) (i j x y both new : ℕ) → i < length fs → j < length fs → f ≡ get_or fs i f → g ≡ get_or fs j g
+      → x ≡ get_or rows i x → y ≡ get_or rows j y → IsCombinationAt f g p h → IsMeet x y both
+      → (length corners < MOST_INDICES → AddsIndex both (length corners) new) → (MOST_INDICES ≤ length corners → new ≡ both)
       → IsCornerRow (corners ++ (p ∷ [])) h new
-  new_row f g h i j x y new l k ef eg ex ey c set full =
-      row_more corners p h (length corners) (bit_and x y) new refl
-      (row_meet corners f g h x y (s.held.rows.each i f x l ef ex) (s.held.rows.each j g y k eg ey) both)
+  new_row f g h i j x y both new l k ef eg ex ey c meets set full =
+      row_more corners p h (length corners) both new refl
+      (row_meet corners f g h x y both (s.held.rows.each i f x l ef ex) (s.held.rows.each j g y k eg ey) meets vanishes)
       (λ z. set) (λ u. absurd (u c.vanishes)) full
     where
       left : IsFacet (length p) corners f
@@ -308,8 +309,8 @@ module _ (corners : List (List ℤ)) (fs : List Affine) (rows : List ℕ) (p : L
       right : IsFacet (length p) corners g
       right = (s.held.hull.members g).0 (j, k, sym eg)
 
-      both : (q : List ℤ) → Contains corners q → (value h q ≡ pos 0) ↔ ((value f q ≡ pos 0) × (value g q ≡ pos 0))
-      both q m = (
+      vanishes : (q : List ℤ) → Contains corners q → (value h q ≡ pos 0) ↔ ((value f q ≡ pos 0) × (value g q ≡ pos 0))
+      vanishes q m = (
         λ z. pair_parts (length p) corners p refl f g h left right c q (in_from_contains corners m) z,
         λ z. pair_zero (length p) corners p refl f g h left right c q z.0 z.1,
       )

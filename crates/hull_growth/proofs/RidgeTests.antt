@@ -1,6 +1,6 @@
 -- Two facets meet in a ridge exactly where no third one stands in the list that vanishes with both.
 use Rattle.std.proofs.Common.{◌≡◌, ◌≢◌, ◌⊎◌, ◌↔◌, inl, inr, ⊎_elim, ℕ, ◌+◌, ◌<◌, ◌≤◌, List, length, get_or, slice_index_or, ℤ, pos, sym, ap, ◌∙◌, subst, Contains, arith}
-use Rattle.std.specs.Prelude.{bit_and}
+use Rattle.bit_rows.specs.declared.row.TheConstants.{MOST_INDICES}
 use Rattle.std.specs.List.{All, AllPairs}
 use Rattle.std.proofs.lemmas.Bool.{cases_lt}
 use Rattle.std.proofs.lemmas.List.{get_or_default}
@@ -9,7 +9,7 @@ use Rattle.lattice_theory.specs.Affine.{Affine, value}
 use Rattle.lattice_theory.specs.Facet.{IsFacet}
 use Rattle.ridge_theory.specs.Ridges.{VanishesWithBoth, IsRidge}
 use Rattle.ridge_theory.proofs.ThirdFacets.{ridges_by_facets_lem}
-use Rattle.hull_growth.specs.steps.Rows.{NoThirdRow, NoThirdFunction, NoThirdFunctionBelow}
+use Rattle.hull_growth.specs.steps.Rows.{HasCommon, NoThirdRow, NoThirdFunction, NoThirdFunctionBelow}
 use Rattle.hull_growth.specs.steps.Growing.{IsHeld}
 use Rattle.hull_growth.proofs.RowBits.{meet_tells}
 use Rattle.hull_growth.proofs.Appending.{same_at}
@@ -68,7 +68,7 @@ ridge_by_functions n corners fs rows i j f g h l k a b = (there, back)
         same x y q w c d = c ∙ get_or_default fs q x y w ∙ sym d
 
 -- so do the rows, with at most 128 corners
-pub ridge_by_rows : (n : ℕ) (corners : List (List ℤ)) (fs : List Affine) (rows : List ℕ) (i j : ℕ) (f g : Affine) → length corners ≤ 128
+pub ridge_by_rows : (n : ℕ) (corners : List (List ℤ)) (fs : List Affine) (rows : List ℕ) (i j : ℕ) (f g : Affine) → length corners ≤ MOST_INDICES
     → IsHeld n corners fs rows → i < length fs → j < length fs → f ≡ slice_index_or fs i f → g ≡ slice_index_or fs j g
     → NoThirdRow rows i j ↔ IsRidge n corners f g
 ridge_by_rows n corners fs rows i j f g few h l k a b = (
@@ -82,17 +82,14 @@ ridge_by_rows n corners fs rows i j f g few h l k a b = (
 
     tells : (m : ℕ) (f' g' u : Affine) → m < length fs → f' ≡ slice_index_or fs i f' → g' ≡ slice_index_or fs j g'
         → u ≡ slice_index_or fs m u
-        → (bit_and (bit_and (slice_index_or rows i 0) (slice_index_or rows j 0)) (slice_index_or rows m 0)
-        ≡ bit_and (slice_index_or rows i 0) (slice_index_or rows j 0))
-        ↔ VanishesWithBoth corners f' g' u
+        → HasCommon (slice_index_or rows i 0) (slice_index_or rows j 0) (slice_index_or rows m 0) ↔ VanishesWithBoth corners f' g' u
     tells m f' g' u s a' b' e = meet_tells corners f' g' u (slice_index_or rows i 0) (slice_index_or rows j 0) (slice_index_or rows m 0) few
         (h.rows.each i f' (slice_index_or rows i 0) l a' (row i l))
         (h.rows.each j g' (slice_index_or rows j 0) k b' (row j k))
         (h.rows.each m u (slice_index_or rows m 0) s e (row m s))
 
     third : (m : ℕ) → NoThirdFunction corners fs i j → m < length fs
-        → bit_and (bit_and (slice_index_or rows i 0) (slice_index_or rows j 0)) (slice_index_or rows m 0)
-        ≡ bit_and (slice_index_or rows i 0) (slice_index_or rows j 0) → (m ≡ i) ⊎ (m ≡ j)
+        → HasCommon (slice_index_or rows i 0) (slice_index_or rows j 0) (slice_index_or rows m 0) → (m ≡ i) ⊎ (m ≡ j)
     third m none s e = none m f g (get_or fs m f) s a b (get_or_default fs m f (get_or fs m f) s)
         ((tells m f g (get_or fs m f) s a b (get_or_default fs m f (get_or fs m f) s)).0 e)
 

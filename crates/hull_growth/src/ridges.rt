@@ -10,17 +10,18 @@ ghost use Rattle.hull_growth.specs.steps.Growing.{IsHeld};
 
 use crate::rows::FacetRows;
 use crate::values::vanishes_with_both;
+use bit_rows::{BitRow, MOST_INDICES};
 use lattice_core::{Functional, Point};
 
 /// Whether no third row contains the meet of the rows at two places.
-fn is_alone_by_rows(rows: &[u128], i: usize, j: usize) -> bool
+fn is_alone_by_rows(rows: &[BitRow], i: usize, j: usize) -> bool
     requires first { i < length rows.now }
     requires second { j < length rows.now }
     ensures { IsTrue result ↔ NoThirdRow rows.now i j }
 {
-    let meet = rows[i] & rows[j];
+    let both = rows[i].meet(rows[j]);
     for k in 0..rows.len() {
-        if meet & rows[k] == meet && k != i && k != j {
+        if both.is_part_of(rows[k]) && k != i && k != j {
             return false;
         }
     }
@@ -56,7 +57,7 @@ pub(crate) fn is_ridge(corners: &[Point], facets: &FacetRows, i: usize, j: usize
         → f ≡ slice_index_or facets.now.functions.items i f → g ≡ slice_index_or facets.now.functions.items j g
         → IsTrue result ↔ IsRidge n corners.now f g }
 {
-    if corners.len() > 128 {
+    if corners.len() > MOST_INDICES {
         return is_alone_by_values(corners, &facets.functions, i, j);
     }
     is_alone_by_rows(&facets.rows, i, j)

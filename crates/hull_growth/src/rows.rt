@@ -1,10 +1,12 @@
-//! Facets with rows of bits, one bit for each of the first 128 corners.
-ghost use Rattle.std.specs.Prelude.{◌≡◌, ◌≢◌, ◌^◌, ◌<◌, ◌≤◌, [], ◌∷◌, ◌++◌, length, nat_abs, pos, bit_or, IfOk, OnOk};
+//! Facets with rows: at which of the first 128 corners each vanishes.
+ghost use Rattle.std.specs.Prelude.{◌≡◌, ◌≢◌, ◌^◌, ◌<◌, ◌≤◌, [], ◌∷◌, ◌++◌, length, nat_abs, pos, IfOk, OnOk};
 ghost use Rattle.std.specs.List.{All};
 ghost use Rattle.lattice_theory.specs.Vector.{HaveDimension};
 ghost use Rattle.lattice_theory.specs.Size.{absolute_sum};
-ghost use Rattle.hull_growth.specs.steps.Rows.{IsCornerRow, AreCornerRows};
+ghost use Rattle.bit_rows.specs.declared.row.TheConstants.{MOST_INDICES};
+ghost use Rattle.hull_growth.specs.steps.Rows.{AddsIndex, IsCornerRow, AreCornerRows};
 
+use bit_rows::{BitRow, MOST_INDICES};
 use lattice_core::{Functional, NoMemory, Point};
 use std::alloc::Global;
 
@@ -12,12 +14,12 @@ use std::alloc::Global;
 #[derive(Drop)]
 pub(crate) struct FacetRows {
     pub(crate) functions: Vec<Functional>,
-    pub(crate) rows: Vec<u128>,
+    pub(crate) rows: Vec<BitRow>,
 }
 
 impl FacetRows {
     /// One function more, with its row. After an error the two lists may differ.
-    pub(crate) fn add(&mut self, function: Functional, row: u128) -> Result<(), NoMemory>
+    pub(crate) fn add(&mut self, function: Functional, row: BitRow) -> Result<(), NoMemory>
         ensures functions { OnOk result (self.new.functions.items ≡ self.old.functions.items ++ (function ∷ [])) }
         ensures rows { OnOk result (self.new.rows.items ≡ self.old.rows.items ++ (row ∷ [])) }
     {
@@ -27,27 +29,28 @@ impl FacetRows {
     }
 }
 
-/// The row with one more corner, at the place, at which the function has the value. There is no bit from the place 128 on.
-pub(crate) fn row_with(row: u128, place: usize, value: i128) -> u128
-    ensures set { value ≡ pos 0 → place < 128 → result ≡ bit_or row (2 ^ place) }
+/// The row with one more corner, at the place, at which the function has the value. From the place 128 on a corner has no place in it.
+pub(crate) fn row_with(row: BitRow, place: usize, value: i128) -> BitRow
+    ensures set { value ≡ pos 0 → place < MOST_INDICES → AddsIndex row place result }
     ensures same { value ≢ pos 0 → result ≡ row }
-    ensures full { 128 ≤ place → result ≡ row }
+    ensures full { MOST_INDICES ≤ place → result ≡ row }
 {
-    if value == 0 && place < 128 {
-        row | (1 << place)
-    } else {
-        row
+    if value == 0 && place < MOST_INDICES {
+        let mut more = row;
+        more.add(place);
+        return more;
     }
+    row
 }
 
 /// The row of a function.
-fn corner_row(corners: &[Point], f: &Functional) -> u128
+fn corner_row(corners: &[Point], f: &Functional) -> BitRow
     requires dimension { HaveDimension (length f.now.normal) corners.now }
     requires small { All (λ c. absolute_sum c ≤ 2 ^ 30) corners.now }
     requires constant { nat_abs f.now.constant ≤ 2 ^ 100 }
     ensures { IsCornerRow corners.now f.now result }
 {
-    let mut row = 0;
+    let mut row = BitRow::empty();
     for i in 0..corners.len() {
         row = row_with(row, i, f.at(&corners[i]));
     }
@@ -59,7 +62,7 @@ pub(crate) fn rows_of(
     alloc: Global,
     corners: &[Point],
     functions: &[Functional],
-) -> Result<Vec<u128>, NoMemory>
+) -> Result<Vec<BitRow>, NoMemory>
     requires dimension { All (λ f. HaveDimension (length f.normal) corners.now) functions.now }
     requires small { All (λ c. absolute_sum c ≤ 2 ^ 30) corners.now }
     requires constants { All (λ f. nat_abs f.constant ≤ 2 ^ 100) functions.now }

@@ -55,7 +55,8 @@ fn add_combination(
         → IsAddedCombination f g p.now grown.old.functions.items grown.new.functions.items) }
     ensures rows { OnOk result (AreCornerRows (corners.now ++ (p.now ∷ [])) grown.new.functions.items grown.new.rows.items) }
 {
-    let row = row_with(facets.rows[i] & facets.rows[j], corners.len(), 0);
+    let both = facets.rows[i].meet(facets.rows[j]);
+    let row = row_with(both, corners.len(), 0);
     let function = combine(&facets.functions[i], &facets.functions[j], p);
     grown.add(function, row)?;
     Ok(())

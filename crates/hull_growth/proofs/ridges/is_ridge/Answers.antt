@@ -13,8 +13,8 @@ pub is_alone_by_values-requires-clause-constants : goal.is_alone_by_values-requi
 is_alone_by_values-requires-clause-constants c = rw c.deref.ensures.value
     (held_constants c.requires.held.0 c.args.corners.now c.args.facets.now.functions.items c.args.facets.now.rows.items c.requires.held.1)
 
-pub returns-then-corners-gt128 : goal.returns-then-corners-gt128
-returns-then-corners-gt128 c = λ n f g h a b. decided (NoThirdFunction c.args.corners.now c.args.facets.now.functions.items c.args.i c.args.j)
+pub returns-then-corners-gt-MOST_INDICES : goal.returns-then-corners-gt-MOST_INDICES
+returns-then-corners-gt-MOST_INDICES c = λ n f g h a b. decided (NoThirdFunction c.args.corners.now c.args.facets.now.functions.items c.args.i c.args.j)
     (IsRidge n c.args.corners.now f g) (IsTrue c.is_alone_by_values.result)
     (ridge_by_functions n c.args.corners.now c.args.facets.now.functions.items c.args.facets.now.rows.items c.args.i c.args.j f g h
     c.requires.first c.requires.second a b) (rw c.deref.ensures.value at c.is_alone_by_values.ensures)
@@ -23,5 +23,5 @@ pub returns : goal.returns
 returns c = λ n f g h a b. decided (NoThirdRow c.args.facets.now.rows.items c.args.i c.args.j)
     (IsRidge n c.args.corners.now f g) (IsTrue c.is_alone_by_rows.result)
     (ridge_by_rows n c.args.corners.now c.args.facets.now.functions.items c.args.facets.now.rows.items c.args.i c.args.j f g
-    c.if-corners-gt128.false h
+    c.if-corners-gt-MOST_INDICES.false h
     c.requires.first c.requires.second a b) (rw c.deref-2.ensures.value at c.is_alone_by_rows.ensures)

@@ -41,5 +41,5 @@ returns-clause-rows c =
     (rows_push _ c.args.grown.now.functions.items c.args.grown.now.rows.items c.combine-function.result c.row_with-row.result c.requires.rows
     (new_row c.args.corners.now c.args.facets.now.functions.items c.args.facets.now.rows.items c.args.p.now c.requires.step
     c.index-3.result.now c.index-4.result.now c.combine-function.result c.args.i c.args.j c.index.result.now c.index-2.result.now
-    c.row_with-row.result c.requires.first c.requires.second c.index-3.ensures c.index-4.ensures c.index.ensures c.index-2.ensures
-    c.combine-function.ensures (λ l. c.row_with-row.ensures.set refl l) c.row_with-row.ensures.full))
+    c.meet-both.result c.row_with-row.result c.requires.first c.requires.second c.index-3.ensures c.index-4.ensures c.index.ensures c.index-2.ensures
+    c.combine-function.ensures c.meet-both.ensures (λ l. c.row_with-row.ensures.set refl l) c.row_with-row.ensures.full))
