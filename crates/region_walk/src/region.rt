@@ -56,8 +56,7 @@ impl Region {
         Ok(Region { low, high, levels })
     }
 
-    /// Leaves out the points at which the function is negative. Its constant is at most 2^103 in absolute value. Without memory the region
-    /// stays as it was.
+    /// Leaves out the points at which the function is negative. Its constant is at most 2^103 in absolute value.
     pub fn add(&mut self, function: Functional) -> Result<(), NoMemory>
         requires sound { IsSoundRegion self.old }
         requires dimension { length function.normal ≡ length self.old.low }
