@@ -94,7 +94,7 @@ fn are_same_functions(f: &[Functional], g: &[Functional]) -> bool {
     f.len() == g.len() && f.iter().zip(g).all(|(f, g)| f.is_same(g))
 }
 
-fn are_same_points(p: &[Point], q: &[Point]) -> bool {
+pub(crate) fn are_same_points(p: &[Point], q: &[Point]) -> bool {
     p.len() == q.len() && p.iter().zip(q).all(|(p, q)| p.entries() == q.entries())
 }
 

@@ -5,6 +5,8 @@
 #![tactic(auto)]
 
 #[cfg(test)]
+mod dilates;
+#[cfg(test)]
 mod hulls;
 #[cfg(test)]
 mod large_hulls;
