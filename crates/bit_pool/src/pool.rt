@@ -61,16 +61,18 @@ impl RowPool {
         self.width
     }
 
-    /// The number of rows of the young generation.
+    /// The number of rows of the young generation, at most as many as it has room for.
     pub fn used(&self) -> usize
-        ensures { result ≡ length self.now.young_generation.rows }
+        ensures value { result ≡ length self.now.young_generation.rows }
+        ensures room { result ≤ self.now.young_generation.reserved }
     {
         self.young_rows.len()
     }
 
-    /// How many rows the young generation has room for.
+    /// How many rows the young generation has room for, at most 2^24.
     pub fn reserved(&self) -> usize
-        ensures { result ≡ self.now.young_generation.reserved }
+        ensures value { result ≡ self.now.young_generation.reserved }
+        ensures most { result ≤ MOST_ROWS }
     {
         self.reserved
     }
@@ -80,6 +82,17 @@ impl RowPool {
         ensures { result ≡ self.now.turns }
     {
         self.turns
+    }
+
+    /// The id that the next row of the young generation will have.
+    pub fn next_id(&self) -> RowId
+        ensures epoch { result.epoch ≡ self.now.young_generation.epoch }
+        ensures place { result.place ≡ length self.now.young_generation.rows }
+    {
+        RowId {
+            epoch: self.young_rows.epoch(),
+            place: self.young_rows.len() as u32,
+        }
     }
 
     /// The words of the row that an id names. `Stale` comes exactly where it names none.
@@ -134,17 +147,14 @@ impl RowPool {
         requires { IsRow self.old.width words.now }
         ensures { IsPushed self.old self.new words.now result }
     {
-        let used = self.young_rows.len();
-        if used == self.reserved {
+        if self.young_rows.len() == self.reserved {
             return Err(Full {
                 reserved: self.reserved,
             });
         }
+        let id = self.next_id();
         self.young_rows.push(words);
-        Ok(RowId {
-            epoch: self.young_rows.epoch(),
-            place: used as u32,
-        })
+        Ok(id)
     }
 
     /// Adds the numbers that are in the rows of both ids as a row to the young generation. `Stale` comes exactly where one of the ids names no

@@ -146,10 +146,12 @@ fn names(pool: &RowPool, id: RowId, word: u64) -> bool {
 fn keeps_young_rows_over_a_swap(rt: HostRuntime) -> Result<(), Fail> {
     let mut pool = RowPool::open(rt.alloc(), 8, 2)?;
     assert_eq!(rt; put(&rt, &mut pool, &[5]), Ok(id(1, 0)));
+    assert_eq!(rt; pool.next_id(), id(1, 1));
     assert_eq!(rt; put(&rt, &mut pool, &[6]), Ok(id(1, 1)));
     pool.swap_generations();
     assert_eq!(rt; pool.turns(), 1);
     assert_eq!(rt; pool.used(), 0);
+    assert_eq!(rt; pool.next_id(), id(2, 0));
     assert!(rt; names(&pool, id(1, 1), 6));
     assert_eq!(rt; put(&rt, &mut pool, &[7]), Ok(id(2, 0)));
     assert_eq!(rt; pool.meet_into(id(1, 1), id(2, 0)), Ok(id(2, 1)));
@@ -163,5 +165,24 @@ fn keeps_young_rows_over_a_swap(rt: HostRuntime) -> Result<(), Fail> {
     };
     assert_eq!(rt; pool.row(id(1, 0)), Err(gone));
     assert!(rt; names(&pool, id(2, 0), 7));
+    Ok(())
+}
+
+#[test]
+fn gives_rows_up_after_two_swaps(rt: HostRuntime) -> Result<(), Fail> {
+    let mut pool = RowPool::open(rt.alloc(), 8, 2)?;
+    assert_eq!(rt; put(&rt, &mut pool, &[1]), Ok(id(1, 0)));
+    assert_eq!(rt; put(&rt, &mut pool, &[2]), Ok(id(1, 1)));
+    assert_eq!(rt; put(&rt, &mut pool, &[3]), Err(Full { reserved: 2 }));
+    pool.swap_generations();
+    pool.swap_generations();
+    assert_eq!(rt; put(&rt, &mut pool, &[4]), Ok(id(3, 0)));
+    let gone = Stale {
+        asked: id(1, 0),
+        old_epoch: 2,
+        young_epoch: 3,
+    };
+    assert_eq!(rt; pool.row(id(1, 0)), Err(gone));
+    assert!(rt; names(&pool, id(3, 0), 4));
     Ok(())
 }
