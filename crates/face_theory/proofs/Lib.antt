@@ -2,6 +2,7 @@ pub mod Sets
 pub mod Separations
 pub mod Meets
 pub mod Heights
+pub mod MeetRanks
 pub mod DualFaces
 pub mod Climbs
 pub mod FaceTests

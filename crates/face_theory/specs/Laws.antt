@@ -6,7 +6,7 @@ use Rattle.lattice_theory.specs.Affine.{Affine}
 use Rattle.face_theory.specs.Sets.{IsPart, IsProperPart, IsProperWhole, set_size, is_same, is_proper_part, is_proper_whole}
 use Rattle.face_theory.specs.Chains.{IsChainFrom}
 use Rattle.face_theory.specs.Faces.{TightRelation, transposed, IsFace, IsDualFace, IsRank, IsCorank, AreFaces}
-use Rattle.face_theory.specs.Meets.{function_row, row_meet, IsRowMeet, AreRowMeets, IsMadeBy}
+use Rattle.face_theory.specs.Meets.{function_row, row_meet, IsRowMeet, AreRowMeets, IsMadeBy, IsOverMeets}
 use Rattle.face_theory.specs.Closures.{closure}
 use Rattle.face_theory.specs.Ranks.{RankedFace, AreRanked, AreSorted, IsNoLarger, IsNoSmaller, rank_over}
 use Rattle.face_theory.specs.Pairings.{IsPairedBy, paired, valued}
@@ -69,6 +69,10 @@ CorankStep = (R : TightRelation) (before : List RankedFace) (face : List Bool) �
     → All (λ r. IsFace R r.set) before → All (λ r. IsCorank R r.set r.rank) before
     → ((x : List Bool) → IsFace R x → IsProperWhole x face → Contains (map (λ r. r.set) before) x)
     → IsCorank R face (rank_over is_proper_whole before face)
+
+-- the ranks of what a face has in common with single rows of functions tell its rank
+abbrev pub RankByMeets : Type 0
+RankByMeets = (R : TightRelation) (face : List Bool) (k : ℕ) → IsFace R face → IsOverMeets R face k → IsRank R face k
 
 -- so a table of all faces, by rising numbers of members, that is ranked face by face has the ranks
 abbrev pub TableHasRanks : Type 0

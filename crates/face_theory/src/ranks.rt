@@ -1,5 +1,5 @@
 //! Ranks and coranks, and how they are found.
-ghost use Rattle.face_theory.specs.Laws.{RankIsUnique, CorankIsUnique, RankStep, CorankStep, TableHasRanks, TableHasCoranks, RankRises, RankExists, CorankExists};
+ghost use Rattle.face_theory.specs.Laws.{RankIsUnique, CorankIsUnique, RankStep, CorankStep, RankByMeets, TableHasRanks, TableHasCoranks, RankRises, RankExists, CorankExists};
 
 /// A face has one rank.
 pub fn rank_is_unique()
@@ -19,6 +19,11 @@ pub fn rank_step()
 /// The same from above gives its corank.
 pub fn corank_step()
     ensures { CorankStep }
+{}
+
+/// The ranks of what a face has in common with single rows of functions tell its rank.
+pub fn rank_by_meets()
+    ensures { RankByMeets }
 {}
 
 /// A table of all faces by rising numbers of members, ranked face by face, has the ranks.
