@@ -16,8 +16,30 @@ pub fn pair(a: &[i64], b: &[i64]) -> i128
     ensures left { nat_abs result ≤ 2 ^ 63 * absolute_sum a.now }
     ensures right { nat_abs result ≤ 2 ^ 63 * absolute_sum b.now }
 {
+    match a.len() {
+        1 => pair_of(a, b, 1),
+        2 => pair_of(a, b, 2),
+        3 => pair_of(a, b, 3),
+        4 => pair_of(a, b, 4),
+        5 => pair_of(a, b, 5),
+        6 => pair_of(a, b, 6),
+        count => pair_of(a, b, count),
+    }
+}
+
+/// The same for vectors with so many entries. Where the number is written out, so are the products.
+#[inline]
+fn pair_of(a: &[i64], b: &[i64], count: usize) -> i128
+    requires first { length a.now ≡ count }
+    requires second { length b.now ≡ count }
+    requires most { count ≤ MOST_COORDINATES }
+    requires small { (absolute_sum a.now ≤ 2 ^ 60) ⊎ (absolute_sum b.now ≤ 2 ^ 60) }
+    ensures value { result ≡ dot a.now b.now }
+    ensures left { nat_abs result ≤ 2 ^ 63 * absolute_sum a.now }
+    ensures right { nat_abs result ≤ 2 ^ 63 * absolute_sum b.now }
+{
     let mut sum = 0_i128;
-    for i in 0..a.len() {
+    for i in 0..count {
         sum += product(a[i], b[i]);
     }
     sum
@@ -30,8 +52,27 @@ pub(crate) fn narrow_pair(a: &[i64], b: &[i64]) -> i64
     requires small { HasNarrowSums a.now b.now }
     ensures { result ≡ dot a.now b.now }
 {
+    match a.len() {
+        1 => narrow_pair_of(a, b, 1),
+        2 => narrow_pair_of(a, b, 2),
+        3 => narrow_pair_of(a, b, 3),
+        4 => narrow_pair_of(a, b, 4),
+        5 => narrow_pair_of(a, b, 5),
+        6 => narrow_pair_of(a, b, 6),
+        count => narrow_pair_of(a, b, count),
+    }
+}
+
+/// The same for vectors with so many entries.
+#[inline]
+fn narrow_pair_of(a: &[i64], b: &[i64], count: usize) -> i64
+    requires first { length a.now ≡ count }
+    requires second { length b.now ≡ count }
+    requires small { HasNarrowSums a.now b.now }
+    ensures { result ≡ dot a.now b.now }
+{
     let mut sum = 0;
-    for i in 0..a.len() {
+    for i in 0..count {
         sum += a[i] * b[i];
     }
     sum

@@ -2,7 +2,7 @@ use Rattle.std.proofs.Common.{◌≡◌, ◌+◌, ◌*◌, ◌^◌, ◌≤◌, �
 use Rattle.std.specs.Prelude.{nat_abs}
 use Rattle.lattice_theory.specs.Vector.{dot}
 use Rattle.lattice_theory.specs.Size.{absolute_sum}
-use Rattle.lattice_core.proofs.pairing.pair.Given as goal
+use Rattle.lattice_core.proofs.pairing.pair_of.Given as goal
 
 abbrev pub invariant-loop-i : goal.invariant-loop-i
 invariant-loop-i l = record {

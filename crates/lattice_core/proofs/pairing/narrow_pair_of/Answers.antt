@@ -2,7 +2,7 @@ use Rattle.std.proofs.Common.{◌+ℤ◌, ◌*ℤ◌, rules, arith, refl, SFits,
 use Rattle.std.proofs.lemmas.Int.{ints, to_z-of_z}
 use Rattle.lattice_theory.specs.Vector.{entry}
 use Rattle.lattice_core.proofs.DotSteps.{sum_more, stays_within, narrow_fits, sum_all}
-use Rattle.lattice_core.proofs.pairing.narrow_pair.Goals as goal
+use Rattle.lattice_core.proofs.pairing.narrow_pair_of.Goals as goal
 
 pub loop-i-init : goal.loop-i-init
 loop-i-init c = record { sum = omega (arith, ints); small = λ bound h. omega arith }

@@ -5,8 +5,8 @@ use Rattle.lattice_theory.specs.Vector.{entry}
 use Rattle.lattice_theory.specs.Size.{absolute_sum}
 use Rattle.lattice_theory.proofs.Integers.{*ℤ_comm}
 use Rattle.lattice_core.proofs.DotSteps.{sum_more, bound_more, sum_fits, sum_all}
-use Rattle.lattice_core.proofs.pairing.pair.Goals as goal
-use Rattle.lattice_core.proofs.pairing.pair.Goals.{After-product-sum}
+use Rattle.lattice_core.proofs.pairing.pair_of.Goals as goal
+use Rattle.lattice_core.proofs.pairing.pair_of.Goals.{After-product-sum}
 
 -- the product of this turn
 product_is : (c : After-product-sum) → c.product-sum.result ≡ entry c.args.a.now c.loop-i.i *ℤ entry c.args.b.now c.loop-i.i
