@@ -19,4 +19,5 @@ pub mod Order
 pub mod Candidates
 pub mod Listed
 pub mod Vertices
+pub mod Corners
 pub mod ExampleSteps

@@ -92,12 +92,12 @@ vertex_alone n points solid v vertex p i on n' = vertex.outside (λ f l h. by f 
     by f l h (inl c) = absurd (clash (value f v) (value f p) c (sym (value-lowered f (value f v) p) ∙ at_p f l h c) (other f h p i n'))
 
 -- the sum of the facets of a list that are 0 at v: it is 0 at v, and only at points on all of them
-record Tight (n : ℕ) (points : List (List ℤ)) (fs : List Affine) (v : List ℤ) : Type 0 where
-  function : Affine
-  dimension : length function.normal ≡ n
-  zero_there : value function v ≡ pos 0
-  nonnegative : (q : List ℤ) → In q points → pos 0 ≤ℤ value function q
-  tight : (q : List ℤ) → In q points → value function q ≡ pos 0 → (f : Affine) → In f fs → value f v ≡ pos 0 → value f q ≡ pos 0
+pub record Tight (n : ℕ) (points : List (List ℤ)) (fs : List Affine) (v : List ℤ) : Type 0 where
+  pub function : Affine
+  pub dimension : length function.normal ≡ n
+  pub zero_there : value function v ≡ pos 0
+  pub nonnegative : (q : List ℤ) → In q points → pos 0 ≤ℤ value function q
+  pub tight : (q : List ℤ) → In q points → value function q ≡ pos 0 → (f : Affine) → In f fs → value f v ≡ pos 0 → value f q ≡ pos 0
 
 -- the empty sum
 no_tight : (n : ℕ) (points : List (List ℤ)) (v : List ℤ) → Tight n points [] v
@@ -163,7 +163,7 @@ add_tight n points f fs v facet e t = record {
     tight q i z h (there j) e' = t.tight q i (parts q i z).1 h j e'
 
 -- the sum for each list of facets
-tight_sum : (n : ℕ) (points : List (List ℤ)) (fs : List Affine) → Each (IsFacet n points) fs → (v : List ℤ) → Tight n points fs v
+pub tight_sum : (n : ℕ) (points : List (List ℤ)) (fs : List Affine) → Each (IsFacet n points) fs → (v : List ℤ) → Tight n points fs v
 tight_sum n points [] h v = no_tight n points v
 tight_sum n points (f ∷ fs) (more facet facets) v = by (zero_or_not (value f v)) (tight_sum n points fs facets v)
   where

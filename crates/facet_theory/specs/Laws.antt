@@ -86,6 +86,12 @@ abbrev pub HullOfVertices : Type 0
 HullOfVertices = (n : ℕ) (points vertices : List (List ℤ)) → AreSolid n points → AreVerticesInAnyOrder n points vertices
     → (x : List ℤ) → InHull n points x ↔ InHull n vertices x
 
+-- where some of the points, the corners, aren't flat either and have the facets of all, their vertices are those of all
+abbrev pub VerticesOfCorners : Type 0
+VerticesOfCorners = (n : ℕ) (points corners : List (List ℤ)) → AreSolid n points → AreSolid n corners
+    → ((c : List ℤ) → Contains corners c → Contains points c) → ((f : Affine) → IsFacet n points f ↔ IsFacet n corners f)
+    → (v : List ℤ) → IsVertex n points v ↔ IsVertex n corners v
+
 -- so they have its lattice points
 abbrev pub LatticePointsOfVertices : Type 0
 LatticePointsOfVertices = (n : ℕ) (points vertices : List (List ℤ)) → AreSolid n points → AreVerticesInAnyOrder n points vertices

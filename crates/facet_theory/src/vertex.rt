@@ -1,5 +1,5 @@
 //! What the facets say of the vertices, and the vertices of the facets.
-ghost use Rattle.facet_theory.specs.Laws.{VerticesByFacets, LeastAtVertex, FacetsOfVertices, VerticesAreSolid, SomeVertex, VerticesAreSmall, HullOfVertices};
+ghost use Rattle.facet_theory.specs.Laws.{VerticesByFacets, LeastAtVertex, FacetsOfVertices, VerticesAreSolid, SomeVertex, VerticesAreSmall, HullOfVertices, VerticesOfCorners};
 
 /// A point of the list is a vertex exactly where no other point lies on all the facets on which it lies.
 pub fn vertices_by_facets()
@@ -34,4 +34,9 @@ pub fn vertices_are_small()
 /// The vertices have the hull of the points.
 pub fn hull_of_vertices()
     ensures { HullOfVertices }
+{}
+
+/// Points have the vertices of those of them that have their facets.
+pub fn vertices_of_corners()
+    ensures { VerticesOfCorners }
 {}
