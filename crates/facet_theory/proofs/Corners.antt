@@ -1,5 +1,5 @@
 -- Points have the vertices of those of them, the corners, that have their facets.
-use Rattle.std.proofs.Common.{◌≡◌, ◌≢◌, ◌↔◌, ℕ, List, [], ◌∷◌, length, ℤ, pos, ◌≤ℤ◌, ◌⊎◌, inl, inr, refl, subst, arith}
+use Rattle.std.proofs.Common.{◌≡◌, ◌≢◌, ◌↔◌, ℕ, List, [], ◌∷◌, length, ℤ, pos, ◌≤ℤ◌, ◌⊎◌, inl, inr, refl, sym, ◌∙◌, subst, arith}
 use Rattle.std.specs.List.{Contains}
 use Rattle.lattice_theory.specs.Vector.{others}
 use Rattle.lattice_theory.specs.Affine.{Affine, value, IsNonnegative}
@@ -14,7 +14,9 @@ use Rattle.facet_theory.proofs.LeastVertex.{least_at_vertex_lem}
 use Rattle.facet_theory.proofs.Listed.{AllFacets, all_facets}
 use Rattle.facet_theory.proofs.Others.{same_or_not, in_others, to_others}
 use Rattle.facet_theory.proofs.Signs.{nonnegative_at, nonnegative_from}
-use Rattle.facet_theory.proofs.Vertices.{Tight, tight_sum, vertices_by_facets_lem}
+use Rattle.facet_theory.proofs.Lifted.{value_at_one}
+use Rattle.facet_theory.proofs.Vertices.{vertices_by_facets_lem}
+use Rattle.facet_theory.proofs.ZeroSums.{ZeroSum, facet_sum_at}
 
 -- a member or not
 in_or_not : (x : List ℤ) (xs : List (List ℤ)) → In x xs ⊎ (In x xs → ⊥)
@@ -80,9 +82,9 @@ module _ (n : ℕ) (points corners : List (List ℤ)) (solid : AreSolid n points
   to_points v vertex = by (all_facets n points solid)
     where
       by : AllFacets n points → IsVertex n points v
-      by a = at (tight_sum n points a.functions a.facets v)
+      by a = at (facet_sum_at n points a.functions a.facets v (pos 1))
         where
-          at : Tight n points a.functions v → IsVertex n points v
+          at : ZeroSum n points a.functions v (pos 1) → IsVertex n points v
           at t = least (least_at_vertex_lem n points solid t.function t.dimension)
             where
               least : (w : List ℤ) × IsVertex n points w × ((p : List ℤ) → Contains points p → value t.function w ≤ℤ value t.function p)
@@ -93,12 +95,13 @@ module _ (n : ℕ) (points corners : List (List ℤ)) (solid : AreSolid n points
                   inside = in_from_contains points vertex'.member
 
                   zero : value t.function w ≡ pos 0
-                  zero = least_zero (value t.function w) (value t.function v) (below v (among v vertex.member)) t.zero_there
+                  zero = least_zero (value t.function w) (value t.function v) (below v (among v vertex.member))
+                      (sym (value_at_one t.function v) ∙ t.zero_there)
                       (t.nonnegative w inside)
 
                   alone : w ≡ v
                   alone = (vertices_by_facets_lem n corners solid_corners v vertex.member).0 vertex w (to_corners w vertex').member
-                      (λ f facet e. t.tight w inside zero f (a.all f ((same f).1 facet)) e)
+                      (λ f facet e. t.all w inside zero f (a.all f ((same f).1 facet)) (value_at_one f v ∙ e))
 
 -- the law on the vertices of corners
 pub vertices_of_corners_lem : VerticesOfCorners

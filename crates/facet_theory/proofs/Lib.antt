@@ -18,6 +18,7 @@ pub mod DilateBoxes
 pub mod Order
 pub mod Candidates
 pub mod Listed
+pub mod ZeroSums
 pub mod Vertices
 pub mod Corners
 pub mod ExampleSteps

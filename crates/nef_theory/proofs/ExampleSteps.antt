@@ -6,7 +6,7 @@ use Rattle.lattice_theory.specs.Examples.{on_line, in_plane, segment, minus1}
 use Rattle.lattice_theory.proofs.Members.{empty, more, all_from_each, In, here, there, in_from_contains, contains_from_in}
 use Rattle.lattice_theory.proofs.SegmentFacets.{lower_facet}
 use Rattle.nef_theory.specs.Nef.{part_at, pairing_at, IsGrowthList, IsPartPoint, IsNefPartition}
-use Rattle.nef_theory.specs.Reflexive.{IsReflexive}
+use Rattle.duality_theory.specs.Reflexive.{IsReflexive}
 use Rattle.nef_theory.specs.Agreement.{Agrees, IsDead}
 use Rattle.nef_theory.specs.Examples.{short_segment, short_normals, surface, surface_normals}
 

@@ -8,7 +8,7 @@ use Rattle.lattice_theory.proofs.Members.{In, here, there, in_from_contains, con
 use Rattle.lattice_theory.proofs.Vectors.{dot_comm}
 use Rattle.facet_theory.proofs.Hull.{hull_by_facets_lem}
 use Rattle.nef_theory.specs.Nef.{pairing_at}
-use Rattle.nef_theory.specs.Reflexive.{normals_of}
+use Rattle.duality_theory.specs.Reflexive.{normals_of}
 use Rattle.nef_theory.specs.Laws.{PointsByNormals}
 
 -- the normal at a place is that of a member, and each member's stands at some place

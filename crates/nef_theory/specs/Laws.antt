@@ -5,7 +5,8 @@ use Rattle.lattice_theory.specs.Points.{AreLatticePoints}
 use Rattle.facet_theory.specs.Solid.{AreSolid}
 use Rattle.walk_theory.specs.Walks.{NumbersLess, Guide, walk}
 use Rattle.nef_theory.specs.Nef.{IsNefPartition, pairing_at}
-use Rattle.nef_theory.specs.Reflexive.{IsReflexive, AreFacetNormals, AreAtLeastMinusOne}
+use Rattle.duality_theory.specs.Reflexive.{IsReflexive, AreFacetNormals}
+use Rattle.nef_theory.specs.Reflexive.{AreAtLeastMinusOne}
 use Rattle.nef_theory.specs.Agreement.{Agrees, HaveAgreeingPoints, IsDead, StaysLow, AgreesInside}
 use Rattle.nef_theory.specs.Walk.{IsNefGuide}
 

@@ -2,7 +2,7 @@
 ghost use Rattle.std.specs.Prelude.{pos, negsuc, [], ◌∷◌};
 ghost use Rattle.lattice_theory.specs.Examples.{on_line, in_plane, segment, minus1};
 ghost use Rattle.nef_theory.specs.Nef.{IsGrowthList, IsPartPoint, IsNefPartition};
-ghost use Rattle.nef_theory.specs.Reflexive.{IsReflexive};
+ghost use Rattle.duality_theory.specs.Reflexive.{IsReflexive};
 ghost use Rattle.nef_theory.specs.Agreement.{IsDead};
 ghost use Rattle.nef_theory.specs.Examples.{short_segment, short_normals, surface, surface_normals};
 

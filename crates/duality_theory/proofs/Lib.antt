@@ -1,0 +1,5 @@
+pub mod FacetNormals
+pub mod DualFacets
+pub mod VertexFacets
+pub mod DualLists
+pub mod ExampleSteps

@@ -1,0 +1,11 @@
+pub use Rattle.lattice_theory.specs.Vector
+pub use Rattle.lattice_theory.specs.Affine
+pub use Rattle.lattice_theory.specs.Order
+pub use Rattle.lattice_theory.specs.Hull
+pub use Rattle.lattice_theory.specs.Facet
+pub use Rattle.lattice_theory.specs.Points
+pub use Rattle.facet_theory.specs.Solid
+pub mod Reflexive
+pub mod Lists
+pub mod Laws
+pub mod Examples
