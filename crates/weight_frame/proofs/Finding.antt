@@ -14,7 +14,7 @@ use Rattle.lattice_theory.proofs.Vectors.{entry_past, zero_from_entries, entries
 use Rattle.lattice_core.specs.declared.limits.TheConstants.{MOST_FRAME_ENTRY}
 use Rattle.lattice_core.specs.declared.limits.TheConstants.{MOST_COORDINATE}
 use Rattle.weight_frame.specs.Frame.{IsIntegerCombination, AreCoordinates, largest, AreWithinEntryLimit}
-use Rattle.weight_frame.specs.steps.Echelon.{LeadsAt, Leads, no_more, leads}
+use Rattle.weight_frame.specs.steps.Echelon.{IsZeroBelow, LeadsAt, Leads, no_more, leads}
 use Rattle.weight_frame.specs.steps.Places.{IsFirstPlace, IsNextCoordinate, AreFound, IsLargeSomewhere}
 use Rattle.weight_frame.proofs.Largest.{entry_at_most}
 use Rattle.weight_frame.proofs.Steps.{AreSized}
@@ -53,6 +53,16 @@ lead_at a _ j d no_more h = absurd (omega arith)
 lead_at a _ zero d (leads place i x l) h = record { place = place; lead = x; behind = l }
 lead_at a _ (suc j) d (leads {u = u} {us = us} place i x l) h =
     lead_deeper u us j (get_or us j d) (lead_at (suc place) us j d l (omega arith))
+
+-- its entries before the number j are 0
+pub zero_before : (a : ℕ) (us : List (List ℤ)) (j : ℕ) (d : List ℤ) → Leads a us → j < length us → IsZeroBelow (a + j) (get_or us j d)
+zero_before a _ j d no_more h = absurd (omega arith)
+zero_before a _ zero d (leads place i x l) h = λ k m. x.before k (omega arith)
+zero_before a _ (suc j) d (leads {u = u} {us = us} place i x l) h =
+    λ k m. zero_before (suc place) us j d l (omega arith) k (omega arith)
+
+pub zero_before_lead : (us : List (List ℤ)) (j : ℕ) (b : List ℤ) → Leads 0 us → j < length us → b ≡ get_or us j b → IsZeroBelow j b
+zero_before_lead us j b l h e k m = ap (λ (v : List ℤ). entry v k) e ∙ zero_before 0 us j b l h k (omega arith)
 
 -- its leading place is that of its first entry that isn't 0
 nonzero_positive : (a : ℤ) → pos 0 <ℤ a → a ≡ pos 0 → ⊥

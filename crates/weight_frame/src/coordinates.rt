@@ -7,7 +7,7 @@ ghost use Rattle.lattice_core.specs.Weights.{weighted_all, columns_of, IsInLatti
 ghost use Rattle.lattice_core.specs.declared.limits.TheConstants.{MOST_COORDINATES, MOST_DEGREE, MOST_COORDINATE, MOST_FRAME_ENTRY};
 ghost use Rattle.weight_frame.specs.Frame.{IsIntegerCombination, AreWithinEntryLimit, largest};
 ghost use Rattle.weight_frame.specs.steps.Reached.{AreSmallVectors};
-ghost use Rattle.weight_frame.specs.steps.Echelon.{Leads};
+ghost use Rattle.weight_frame.specs.steps.Echelon.{Leads, IsZeroBelow};
 ghost use Rattle.weight_frame.specs.steps.Places.{IsFirstPlace, IsNextCoordinate, AreFound, IsLargeSomewhere};
 ghost use Rattle.weight_frame.specs.Answers.{IsHandedOut, IsAnswer};
 
@@ -58,11 +58,13 @@ pub(crate) fn combine(coefficients: &[i64], vectors: &[FrameVector], out: &mut [
     }
 }
 
-/// The place of the first entry that isn't 0.
-fn first_place(x: &[i64]) -> Option<usize>
+/// The place of the first entry that isn't 0, where those before the place `from` are 0.
+#[inline]
+fn first_place(x: &[i64], from: usize) -> Option<usize>
+    requires zeros { IsZeroBelow from x.now }
     ensures { MatchOption result (All (λ a. a ≡ pos 0) x.now) (IsFirstPlace x.now) }
 {
-    for place in 0..x.len() {
+    for place in from..x.len() {
         if x[place] != 0 {
             return Some(place);
         }
@@ -70,13 +72,29 @@ fn first_place(x: &[i64]) -> Option<usize>
     None
 }
 
+/// The quotient, rounded to 0. Without a division where the divisor is 1, and in 64 bits where the dividend fits.
+#[inline]
+fn quotient_to_zero(a: i128, divisor: i64) -> i128
+    requires positive { pos 0 <ℤ divisor }
+    ensures { result ≡ int_div a divisor }
+{
+    if divisor == 1 {
+        return a;
+    }
+    match i64::try_from(a) {
+        Ok(a) => i128::from(a / divisor),
+        Err(_) => a / i128::from(divisor),
+    }
+}
+
 /// A difference, divided.
+#[inline]
 fn quotient_of(a: i64, b: i128, divisor: i64) -> i128
     requires small { nat_abs b ≤ 2 ^ 98 }
     requires positive { pos 0 <ℤ divisor }
     ensures { result ≡ int_div (a -ℤ b) divisor }
 {
-    (i128::from(a) - b) / i128::from(divisor)
+    quotient_to_zero(i128::from(a) - b, divisor)
 }
 
 /// The next coordinate of `x`, where the first ones are found.
@@ -89,7 +107,7 @@ fn next_coordinate(x: &[i64], vectors: &[FrameVector], found: &[i64]) -> i128
     ensures { IsNextCoordinate vectors.now x.now found.now result }
 {
     let vector = vectors[found.len()].entries();
-    match first_place(vector) {
+    match first_place(vector, found.len()) {
         Some(place) => quotient_of(
             x[place],
             combined_entry(found, vectors, place),

@@ -5,7 +5,7 @@ use Rattle.weight_frame.proofs.Finding.{zeros_more, zeros_all, nonzero_from}
 use Rattle.weight_frame.proofs.coordinates.first_place.Goals as goal
 
 pub loop-place-init : goal.loop-place-init
-loop-place-init c = λ j h. absurd (omega arith)
+loop-place-init c = c.requires.zeros
 
 pub returns-then-x-place-ne0 : goal.returns-then-x-place-ne0
 returns-then-x-place-ne0 c = record {

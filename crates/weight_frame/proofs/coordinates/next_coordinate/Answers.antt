@@ -5,7 +5,7 @@ use Rattle.std.specs.List.{All}
 use Rattle.lattice_theory.specs.Vector.{entry}
 use Rattle.weight_frame.specs.steps.Places.{IsFirstPlace}
 use Rattle.weight_frame.proofs.Reaching.{vector_at}
-use Rattle.weight_frame.proofs.Finding.{next_is, first_positive, no_zeros, all_long}
+use Rattle.weight_frame.proofs.Finding.{next_is, zero_before_lead, first_positive, no_zeros, all_long}
 use Rattle.weight_frame.proofs.coordinates.next_coordinate.Goals as goal
 
 pub bounds-x-place : goal.bounds-x-place
@@ -18,6 +18,12 @@ bounds-x-place c =
     c.index-vectors-found.is in
     let within : place < length c.args.x.now = rw at.dimension at first.within in
     within
+
+pub first_place-requires : goal.first_place-requires
+first_place-requires c =
+    let zeros = zero_before_lead c.args.vectors.now (length c.args.found.now) c.index-vectors-found.result c.requires.leads c.requires.some
+    c.index-vectors-found.is in
+    record { zeros = rw c.entries-vector.ensures.value zeros }
 
 pub combined_entry-requires : goal.combined_entry-requires
 combined_entry-requires c =
