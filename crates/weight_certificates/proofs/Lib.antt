@@ -1,0 +1,5 @@
+mod Sums
+mod Surrounding
+mod Checks
+mod Refuting
+mod TestSizes
