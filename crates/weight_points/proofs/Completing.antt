@@ -1,7 +1,7 @@
 -- The steps of the search for the first completion of a beginning.
 use Rattle.std.specs.List.{All}
 use Rattle.std.specs.Prelude.{true, pos}
-use Rattle.std.proofs.Common.{◌≡◌, ◌≢◌, ◌⊎◌, inl, inr, ℕ, ◌+◌, ◌<◌, ◌≤◌, List, length, map, get_or, refl, sym, ap, ◌∙◌, subst, arith}
+use Rattle.std.proofs.Common.{◌≡◌, ◌≢◌, ◌⊎◌, inl, inr, ℕ, ◌+◌, ◌<◌, ◌≤◌, List, length, map, get_or, refl, sym, ap, ◌∙◌, arith}
 use Rattle.std.proofs.Math.ListN.{set, length-set}
 use Rattle.std.proofs.lemmas.Bool.{cases_lt}
 use Rattle.std.proofs.lemmas.List.{get_or-set_same, get_or-set_other, set-set, set-get_or}
@@ -9,7 +9,7 @@ use Rattle.std.proofs.lemmas.List.Elements.{All-map}
 use Rattle.lattice_core.specs.declared.limits.TheConstants.{MOST_DEGREE}
 use Rattle.weight_points.specs.declared.rows.Row.{Row}
 use Rattle.weight_points.specs.steps.Rows.{system_of, systems_of, IsAffordable, IsPlausible, spending, returning, AreRows}
-use Rattle.weight_points.specs.steps.Reaches.{spent}
+use Rattle.weight_points.specs.steps.Waits.{spent}
 use Rattle.weight_points.specs.steps.Search.{exponent, IsZeroFrom, IsCompletion, Completes}
 use Rattle.lattice_theory.specs.Order.{LexLess}
 use Rattle.lattice_theory.specs.Grid.{AgreesTo, LexAtMost}
@@ -123,16 +123,6 @@ module _ (rows : List Row) (a : List ℕ) (place from : ℕ) (ready : AreRows ro
     where
       by : (exponent b place ≡ value) ⊎ (value < exponent b place) → value + 1 ≤ exponent b place
       by (inl e) = absurd (none b (record { solves = c.solves; agrees = agrees_longer value b c.agrees e; above = omega arith }))
-      by (inr more) = omega arith
-
-  -- and so is one that isn't plausible
-  pub passed_implausible : (value : ℕ) → (All (IsPlausible place value) rows → ⊥)
-      → ((b : List ℕ) → IsCompletion (systems_of rows) place from a b → value ≤ exponent b place)
-      → (b : List ℕ) → IsCompletion (systems_of rows) place from a b → value + 1 ≤ exponent b place
-  passed_implausible value none passed b c = by (at_or_above value (exponent b place) (passed b c))
-    where
-      by : (exponent b place ≡ value) ⊎ (value < exponent b place) → value + 1 ≤ exponent b place
-      by (inl e) = absurd (none (subst (λ (n : ℕ). All (IsPlausible place n) rows) e (plausible_completion b c)))
       by (inr more) = omega arith
 
 -- what a value that led to nothing leaves behind is what there was

@@ -11,7 +11,7 @@ use Rattle.lattice_theory.specs.Grid.{AgreesTo}
 use Rattle.lattice_theory.proofs.Integers.{same_natural}
 use Rattle.lattice_theory.proofs.LexPlaces.{first_difference, lex_at, same_agreeing}
 use Rattle.lattice_core.specs.Weights.{Weighted, IsMonomial}
-use Rattle.weight_points.specs.steps.Reaches.{spent}
+use Rattle.weight_points.specs.steps.Waits.{spent}
 use Rattle.weight_points.specs.steps.Search.{Solves, exponent}
 
 -- the entries

@@ -1,7 +1,8 @@
 pub mod Weighing
 pub mod Integral
 pub mod Completing
-pub mod Reaching
+pub mod Waiting
+pub mod Raising
 pub mod Writing
 pub mod Advancing
 pub mod Entries

@@ -13,7 +13,7 @@ use Rattle.lattice_core.specs.declared.limits.TheConstants.{MOST_DEGREE}
 use Rattle.lattice_core.specs.Weights.{Weighted, columns_of, AreWellFormed, AreWithinLimits, IsMonomial, IsSummed}
 use Rattle.weight_points.specs.declared.rows.Row.{Row}
 use Rattle.weight_points.specs.Members.{Walked, AreMonomials, IsMonomialAt, HasMonomials, CountsMonomials}
-use Rattle.weight_points.specs.steps.Reaches.{spent}
+use Rattle.weight_points.specs.steps.Waits.{spent}
 use Rattle.weight_points.specs.steps.Rows.{system_of, systems_of, IsRow, IsFresh, AreRows}
 use Rattle.weight_points.specs.steps.Search.{Solves, exponent}
 use Rattle.weight_points.specs.Listing.{solutions, given_of}
@@ -157,7 +157,7 @@ fresh_row row n columns small f = record {
   columns = columns ∙ sym (length-replicate n 0);
   spent_is = let none = spent_zeros row.system.weights.items (replicate n 0) (λ i h. zero_entry n i) in let e = f.left_is in omega arith;
   small = small;
-  reaches = f.reaches;
+  tables = f.tables;
 }
 
 pub fresh_rows : (rows : List Row) → AreWellFormed (systems_of rows) → All (λ s. s.degree ≤ MOST_DEGREE) (systems_of rows)

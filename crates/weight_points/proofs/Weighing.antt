@@ -2,12 +2,12 @@
 use Rattle.std.specs.List.{All}
 use Rattle.std.proofs.Common.{◌≡◌, ℕ, zero, suc, ◌+◌, ◌-◌, ◌*◌, ◌<◌, ◌≤◌, List, [], ◌∷◌, length, map, drop, get_or, refl, sym, ap, ◌∙◌, arith, suc-le-suc, zero-lt-suc}
 use Rattle.std.proofs.Math.ListN.{set, length-set}
-use Rattle.std.proofs.Math.Nat.{le-mul_of_pos_right, mul-le-mul_right}
+use Rattle.std.proofs.Math.Nat.{le-mul_of_pos_right}
 use Rattle.std.proofs.lemmas.List.Elements.{All-nil, All-cons, All-head, All-tail, All-map, All-contains}
 use Rattle.lattice_core.specs.declared.limits.TheConstants.{MOST_DEGREE}
 use Rattle.lattice_core.specs.Weights.{Weighted, columns_of, AreWellFormed, IsSummed}
 use Rattle.weight_points.specs.declared.rows.Row.{Row}
-use Rattle.weight_points.specs.steps.Reaches.{spent}
+use Rattle.weight_points.specs.steps.Waits.{spent}
 use Rattle.weight_points.specs.steps.Rows.{system_of, systems_of, weight_at, HasPlace, IsAffordable, IsPlausible, spending, returning, IsReturnable, IsRow, AreRows}
 use Rattle.weight_points.specs.steps.Search.{Solves, exponent, IsZeroFrom}
 
@@ -87,19 +87,11 @@ solved_row row a place value r last zero_there p =
     let all = r.spent_is in
     omega arith
 
--- so at the last place it is all that is left, divided by the weight
-pub last_value_is : (row : Row) (place value : ℕ) → place + 1 ≡ length row.system.weights.items → IsPlausible place value row
-    → value * weight_at row place ≡ row.left
-last_value_is row place value last p =
-    let d = spent_past row.system.weights.items p.further (suc place) (omega arith) in
-    let p' = rw d at p.is in
-    omega arith
-
 -- a row has each place
 pub row_place : (row : Row) (a : List ℕ) (place : ℕ) → IsRow a row → place < length a → HasPlace place row
 row_place row a place r h = record {
   weight = let e = r.columns in omega arith;
-  reaches = r.reaches;
+  tables = r.tables;
   within = let s = r.spent_is in omega arith;
   small = let s = r.spent_is in let m = r.small in omega arith;
 }
@@ -112,7 +104,7 @@ put_row row a place value r h zero_there k =
     let s = spent_set row.system.weights.items a place value r.columns h in
     let s' = rw zero_there at s in
     let all = r.spent_is in
-    record { columns = r.columns ∙ sym (length-set a place value); spent_is = omega arith; small = r.small; reaches = r.reaches }
+    record { columns = r.columns ∙ sym (length-set a place value); spent_is = omega arith; small = r.small; tables = r.tables }
 
 -- 0 is written over a value, and there is room for what is given back
 pub clear_row : (row : Row) (a : List ℕ) (place : ℕ) → IsRow a row → place < length a
@@ -120,7 +112,7 @@ pub clear_row : (row : Row) (a : List ℕ) (place : ℕ) → IsRow a row → pla
 clear_row row a place r h =
     let s = spent_set row.system.weights.items a place 0 r.columns h in
     let all = r.spent_is in
-    record { columns = r.columns ∙ sym (length-set a place 0); spent_is = omega arith; small = r.small; reaches = r.reaches }
+    record { columns = r.columns ∙ sym (length-set a place 0); spent_is = omega arith; small = r.small; tables = r.tables }
 
 pub returnable_row : (row : Row) (a : List ℕ) (place : ℕ) → IsRow a row → place < length a → IsReturnable place (exponent a place) row
 returnable_row row a place r h =
@@ -171,10 +163,9 @@ solution_small systems b formed small solves i h =
 pub degrees_small : (rows : List Row) (a : List ℕ) → All (IsRow a) rows → All (λ s. s.degree ≤ MOST_DEGREE) (systems_of rows)
 degrees_small rows a each = All-map (λ s. s.degree ≤ MOST_DEGREE) system_of rows (λ k d h. (each k d h).small)
 
--- less is affordable, too
-pub affordable_less : (place value more : ℕ) (row : Row) → value ≤ more → IsAffordable place more row → IsAffordable place value row
-affordable_less place value more row h k = let m : value * weight_at row place ≤ more * weight_at row place =
-    mul-le-mul_right (weight_at row place) h in omega arith
+-- what is plausible is affordable
+pub plausible_affordable : (place value : ℕ) (row : Row) → IsPlausible place value row → IsAffordable place value row
+plausible_affordable place value row p = let is = p.is in omega arith
 
 -- exponents take no more than the degree of a system, which isn't large
 record FitsBeside (a : List ℕ) (system : Weighted) : Type 0 where

@@ -1,3 +1,3 @@
-pub mod Reaches
+pub mod Waits
 pub mod Rows
 pub mod Search

@@ -9,9 +9,9 @@
 
 mod laws;
 mod monomials;
-mod reaches;
 mod rows;
 mod search;
+mod waits;
 
 pub use laws::{exponents_are_small, given_vectors_are_all};
 pub use monomials::{MOST_COUNT, Monomials, count_to};

@@ -1,13 +1,13 @@
 //! Weight systems with what is left of their degrees.
 
-ghost use Rattle.std.specs.Prelude.{◌≡◌, ◌↔◌, ℕ, ◌+◌, ◌*◌, ◌<◌, ◌≤◌, List, length, map, IsTrue, IfOk};
+ghost use Rattle.std.specs.Prelude.{◌≡◌, ◌+◌, ◌*◌, ◌<◌, ◌≤◌, map, IfOk, IfSome, IfNone};
 ghost use Rattle.std.specs.List.{All};
 ghost use Rattle.lattice_core.specs.Weights.{weighted, weighted_all};
 ghost use Rattle.lattice_core.specs.declared.limits.TheConstants.{MOST_DEGREE};
-ghost use Rattle.weight_points.specs.steps.Rows.{system_of, systems_of, HasPlace, IsAffordable, IsPlausible, IsReturnable, spending, returning, IsFresh};
+ghost use Rattle.weight_points.specs.steps.Rows.{system_of, systems_of, weight_at, HasPlace, IsAffordable, IsPlausible, IsNextValue, HasNoValue, IsRaised, IsReturnable, spending, returning, IsFresh};
 
-use crate::reaches::reaches_of;
-use lattice_core::{MOST_DEGREE, NoMemory, WeightSystem};
+use crate::waits::{NEVER, waits_of};
+use lattice_core::{NoMemory, WeightSystem};
 use std::alloc::Global;
 
 /// A weight system beside exponents.
@@ -15,91 +15,76 @@ use std::alloc::Global;
 pub(crate) struct Row {
     /// The weight system.
     pub(crate) system: WeightSystem,
-    /// For each place, the last one first, which numbers the weights behind it take exactly.
-    pub(crate) reaches: Vec<Vec<bool>>,
+    /// For each place, the last one first and behind a table of no weights: how often the weight there is taken before those behind it take
+    /// exactly what is left of a number.
+    pub(crate) tables: Vec<Vec<u16>>,
     /// What the exponents leave of the degree.
     pub(crate) left: u64,
 }
 
 impl Row {
-    /// The least value at the place that can be plausible.
-    fn least_value(&self, place: usize) -> u64
+    /// What is left after so many times the weight at the place, or `None` where less is left.
+    #[inline]
+    fn left_after(&self, place: usize, value: u64) -> Option<u64>
         requires { HasPlace place self.now }
-        ensures { (value : ℕ) → IsPlausible place value self.now → result ≤ value }
+        ensures some { IfSome result (λ left. left + value * weight_at self.now place ≡ self.now.left) }
+        ensures none { IfNone result (self.now.left < value * weight_at self.now place) }
     {
-        let weight = self.system.weights[place];
-        if weight > 0 && place + 1 == self.system.weights.len() {
-            self.left / weight
-        } else {
-            0
+        match value.checked_mul(self.system.weights[place]) {
+            Some(spent) if spent <= self.left => Some(self.left - spent),
+            _ => None,
         }
     }
 
-    /// The greatest value at the place that is affordable and at most `most`.
-    fn most_value(&self, place: usize, most: u64) -> u64
-        requires { HasPlace place self.now }
-        ensures most { result ≤ most }
-        ensures affordable { IsAffordable place result self.now }
-        ensures greatest { (value : ℕ) → value ≤ most → IsPlausible place value self.now → value ≤ result }
-    {
-        let weight = self.system.weights[place];
-        if weight > 0 {
-            most.min(self.left / weight)
-        } else {
-            most
-        }
-    }
-
-    /// Whether the affordable value at the place is plausible.
-    fn is_plausible(&self, place: usize, value: u64) -> bool
+    /// The least plausible value at the place that isn't below this one, or `None` where there is none.
+    fn next_value(&self, place: usize, value: u64) -> Option<u64>
         requires place { HasPlace place self.now }
-        requires affordable { IsAffordable place value self.now }
-        ensures { IsTrue result ↔ IsPlausible place value self.now }
+        requires value { value ≤ MOST_DEGREE }
+        ensures some { IfSome result (IsNextValue (λ v. IsPlausible place v self.now) value) }
+        ensures none { IfNone result (HasNoValue (λ v. IsPlausible place v self.now) value) }
     {
-        let left = self.left - value * self.system.weights[place];
-        let reach = &self.reaches[self.reaches.len() - 1 - place];
-        reach[left as usize]
+        let left = self.left_after(place, value)?;
+        let waits = &self.tables[self.system.weights.len() - place];
+        let wait = waits[left as usize];
+        if wait < NEVER {
+            return Some(value + u64::from(wait));
+        }
+        None
     }
 }
 
-/// A value that no value plausible for all rows is below.
-pub(crate) fn first_value(rows: &[Row], place: usize) -> u64
-    requires { All (HasPlace place) rows.now }
-    ensures { (value : ℕ) → All (IsPlausible place value) rows.now → result ≤ value }
-{
-    let mut first = 0;
-    for row in rows {
-        first = first.max(row.least_value(place));
-    }
-    first
-}
-
-/// An affordable value that no value up to the greatest degree that is plausible for all rows is above.
-pub(crate) fn last_value(rows: &[Row], place: usize) -> u64
-    requires { All (HasPlace place) rows.now }
-    ensures bound { result ≤ MOST_DEGREE }
-    ensures affordable { All (IsAffordable place result) rows.now }
-    ensures greatest { (value : ℕ) → value ≤ MOST_DEGREE → All (IsPlausible place value) rows.now → value ≤ result }
-{
-    let mut last = MOST_DEGREE;
-    for row in rows {
-        last = row.most_value(place, last);
-    }
-    last
-}
-
-/// Whether an affordable value is plausible for all rows.
-pub(crate) fn is_plausible(rows: &[Row], place: usize, value: u64) -> bool
+/// A value, raised by each row to one that is plausible for it.
+fn raised_value(rows: &[Row], place: usize, value: u64) -> Option<u64>
     requires places { All (HasPlace place) rows.now }
-    requires affordable { All (IsAffordable place value) rows.now }
-    ensures { IsTrue result ↔ All (IsPlausible place value) rows.now }
+    requires value { value ≤ MOST_DEGREE }
+    ensures some { IfSome result (IsRaised (λ v. All (IsPlausible place v) rows.now) value) }
+    ensures none { IfNone result (HasNoValue (λ v. All (IsPlausible place v) rows.now) value) }
 {
+    let mut next = value;
     for row in rows {
-        if !row.is_plausible(place, value) {
-            return false;
+        match row.next_value(place, next) {
+            Some(further) => next = further,
+            None => return None,
         }
     }
-    true
+    Some(next)
+}
+
+/// The least value at the place, not below `from`, that is plausible for all rows, or `None` where there is none.
+pub(crate) fn next_value(rows: &[Row], place: usize, from: u64) -> Option<u64>
+    requires places { All (HasPlace place) rows.now }
+    requires from { from ≤ MOST_DEGREE }
+    ensures some { IfSome result (IsNextValue (λ v. All (IsPlausible place v) rows.now) from) }
+    ensures none { IfNone result (HasNoValue (λ v. All (IsPlausible place v) rows.now) from) }
+{
+    let mut value = from;
+    loop {
+        match raised_value(rows, place, value) {
+            Some(next) if next == value => return Some(value),
+            Some(next) => value = next,
+            None => return None,
+        }
+    }
 }
 
 /// Takes an affordable value times the weights at the place away from what is left.
@@ -130,14 +115,14 @@ fn row_of(alloc: Global, system: &WeightSystem) -> Result<Row, NoMemory>
     ensures system { IfOk result (λ row. system_of row ≡ weighted system.now) }
     ensures fresh { IfOk result IsFresh }
 {
-    let reaches = reaches_of(alloc, &system.weights, system.degree)?;
+    let tables = waits_of(alloc, &system.weights, system.degree)?;
     let weights = Vec::from_slice(alloc, &system.weights)?;
     Ok(Row {
         system: WeightSystem {
             degree: system.degree,
             weights,
         },
-        reaches,
+        tables,
         left: system.degree,
     })
 }

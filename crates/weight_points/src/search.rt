@@ -9,7 +9,8 @@ ghost use Rattle.lattice_core.specs.declared.limits.TheConstants.{MOST_DEGREE};
 ghost use Rattle.weight_points.specs.steps.Rows.{systems_of, AreRows, IsAffordable, spending, returning};
 ghost use Rattle.weight_points.specs.steps.Search.{exponent, IsZeroFrom, Completes};
 
-use crate::rows::{Row, first_value, give_back, is_plausible, last_value, spend};
+use crate::rows::{Row, give_back, next_value, spend};
+use lattice_core::MOST_DEGREE;
 
 /// Writes an affordable value over the exponent 0 at the place.
 fn put(rows: &mut [Row], entries: &mut [u64], place: usize, value: u64)
@@ -52,16 +53,17 @@ fn complete(rows: &mut [Row], entries: &mut [u64], place: usize, from: u64) -> b
     ensures kept { result ≡ false → rows.new ≡ rows.old }
     ensures completes { Completes (systems_of rows.old) place from entries.old entries.new result }
 {
-    let first = first_value(rows, place).max(from);
-    let end = last_value(rows, place) + 1;
-    for value in first..end {
-        if is_plausible(rows, place, value) {
-            put(rows, entries, place, value);
-            if place + 1 == entries.len() || complete(rows, entries, place + 1, 0) {
-                return true;
-            }
-            clear(rows, entries, place);
+    let mut value = from;
+    while value <= MOST_DEGREE {
+        let Some(next) = next_value(rows, place, value) else {
+            return false;
+        };
+        put(rows, entries, place, next);
+        if place + 1 == entries.len() || complete(rows, entries, place + 1, 0) {
+            return true;
         }
+        clear(rows, entries, place);
+        value = next + 1;
     }
     false
 }

@@ -1,10 +1,10 @@
 -- Weight systems with what is left of their degrees beside a vector of natural numbers. This project's own.
-use Rattle.std.specs.Prelude.{◌≡◌, ℕ, suc, ◌+◌, ◌-◌, ◌*◌, ◌<◌, ◌≤◌, Bool, List, length, map, drop, slice_index_or}
+use Rattle.std.specs.Prelude.{◌≡◌, ℕ, suc, ◌+◌, ◌-◌, ◌*◌, ◌<◌, ◌≤◌, List, length, map, drop, slice_index_or}
 use Rattle.std.specs.List.{All}
 use Rattle.lattice_core.specs.Weights.{Weighted, weighted, columns_of, AreWellFormed}
 use Rattle.lattice_core.specs.declared.limits.TheConstants.{MOST_DEGREE}
 use Rattle.weight_points.specs.declared.rows.Row.{Row}
-use Rattle.weight_points.specs.steps.Reaches.{spent, AreReaches}
+use Rattle.weight_points.specs.steps.Waits.{spent, AreTables}
 
 -- the weight system of a row, and the systems of rows, as contracts see them
 abbrev pub system_of : Row → Weighted
@@ -18,13 +18,13 @@ abbrev pub weight_at : Row → ℕ → ℕ
 weight_at row place = slice_index_or row.system.weights.items place 0
 
 -- the tables of a row
-abbrev pub tables_of : Row → List (List Bool)
-tables_of row = map (λ reach. reach.items) row.reaches.items
+abbrev pub tables_of : Row → List (List ℕ)
+tables_of row = map (λ waits. waits.items) row.tables.items
 
 -- the row has a weight at the place, and tables for its degree, which isn't exceeded
 pub record HasPlace (place : ℕ) (row : Row) : Type 0 where
   pub weight : place < length row.system.weights.items
-  pub reaches : AreReaches row.system.weights.items row.system.degree (tables_of row)
+  pub tables : AreTables row.system.weights.items row.system.degree (tables_of row)
   pub within : row.left ≤ row.system.degree
   pub small : row.left ≤ MOST_DEGREE
 
@@ -36,6 +36,24 @@ IsAffordable place value row = value * weight_at row place ≤ row.left
 pub record IsPlausible (place value : ℕ) (row : Row) : Type 0 where
   pub further : List ℕ
   pub is : value * weight_at row place + spent (drop (suc place) row.system.weights.items) further ≡ row.left
+
+-- the least value, not below `from`, of which this holds
+pub record IsNextValue (P : ℕ → Type 0) (from next : ℕ) : Type 0 where
+  pub above : from ≤ next
+  pub small : next ≤ MOST_DEGREE
+  pub holds : P next
+  pub least : (value : ℕ) → from ≤ value → P value → next ≤ value
+
+-- up to the greatest degree there is none
+abbrev pub HasNoValue : (ℕ → Type 0) → ℕ → Type 0
+HasNoValue P from = (value : ℕ) → from ≤ value → value ≤ MOST_DEGREE → P value → ⊥
+
+-- the value that one pass over the rows raises another to: where it is the same, it is plausible for all rows
+pub record IsRaised (P : ℕ → Type 0) (from next : ℕ) : Type 0 where
+  pub above : from ≤ next
+  pub small : next ≤ MOST_DEGREE
+  pub holds : next ≡ from → P from
+  pub least : (value : ℕ) → from ≤ value → P value → next ≤ value
 
 -- the row with so many times the weight at the place taken away, and given back
 abbrev pub spending : ℕ → ℕ → Row → Row
@@ -53,7 +71,7 @@ pub record IsRow (a : List ℕ) (row : Row) : Type 0 where
   pub columns : length row.system.weights.items ≡ length a
   pub spent_is : spent row.system.weights.items a + row.left ≡ row.system.degree
   pub small : row.system.degree ≤ MOST_DEGREE
-  pub reaches : AreReaches row.system.weights.items row.system.degree (tables_of row)
+  pub tables : AreTables row.system.weights.items row.system.degree (tables_of row)
 
 -- the rows of well formed systems beside exponents
 pub record AreRows (rows : List Row) (a : List ℕ) : Type 0 where
@@ -64,4 +82,4 @@ pub record AreRows (rows : List Row) (a : List ℕ) : Type 0 where
 -- the row beside exponents that are all 0
 pub record IsFresh (row : Row) : Type 0 where
   pub left_is : row.left ≡ row.system.degree
-  pub reaches : AreReaches row.system.weights.items row.system.degree (tables_of row)
+  pub tables : AreTables row.system.weights.items row.system.degree (tables_of row)

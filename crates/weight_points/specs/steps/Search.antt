@@ -3,7 +3,7 @@ use Rattle.std.specs.Prelude.{◌≡◌, ℕ, ◌≤◌, Bool, true, false, List
 use Rattle.std.specs.List.{All}
 use Rattle.lattice_theory.specs.Grid.{AgreesTo, LexAtMost}
 use Rattle.lattice_core.specs.Weights.{Weighted, columns_of}
-use Rattle.weight_points.specs.steps.Reaches.{spent}
+use Rattle.weight_points.specs.steps.Waits.{spent}
 
 -- the exponents take the whole degree of each system
 pub record Solves (systems : List Weighted) (a : List ℕ) : Type 0 where
