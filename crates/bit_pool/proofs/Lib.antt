@@ -3,4 +3,5 @@ pub mod Sets
 pub mod Counts
 pub mod Meets
 pub mod Named
+pub mod Stays
 pub mod RowTests

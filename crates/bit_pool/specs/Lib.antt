@@ -1,3 +1,5 @@
 pub mod Bits
 pub mod Pools
+pub mod Changes
+pub mod Laws
 pub mod steps

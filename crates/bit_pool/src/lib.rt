@@ -5,10 +5,12 @@
 mod bits;
 mod faults;
 mod generation;
+mod laws;
 mod limits;
 mod pool;
 
 pub use faults::{Full, NoMemory, RowFault, RowId, Stale};
+pub use laws::{rows_stay, width_stays};
 pub use limits::{MOST_ROWS, MOST_TURNS, MOST_WIDTH};
 pub use pool::RowPool;
 

@@ -88,6 +88,7 @@ impl RowPool {
     pub fn next_id(&self) -> RowId
         ensures epoch { result.epoch ≡ self.now.young_generation.epoch }
         ensures place { result.place ≡ length self.now.young_generation.rows }
+        ensures pool { IsPool self.now }
     {
         RowId {
             epoch: self.young_rows.epoch(),

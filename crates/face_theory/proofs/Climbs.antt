@@ -76,7 +76,7 @@ each_at d (more p ps) zero h = p
 each_at d (more p ps) (suc i) h = each_at d ps i (le_of_suc-le-suc h)
 
 -- the test of 0
-is_zero-true : (a : ℤ) → is_zero a ≡ true → a ≡ pos 0
+pub is_zero-true : (a : ℤ) → is_zero a ≡ true → a ≡ pos 0
 is_zero-true (pos zero) e = refl
 is_zero-true (pos (suc n)) e = absurd (true_false e refl)
 is_zero-true (negsuc n) e = absurd (true_false e refl)

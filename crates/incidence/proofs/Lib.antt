@@ -1,0 +1,5 @@
+pub mod Bits
+pub mod Added
+pub mod SmallValues
+pub mod Telling
+pub mod Held

@@ -1,0 +1,3 @@
+pub mod Incidences
+pub mod RowSteps
+pub mod Laws
