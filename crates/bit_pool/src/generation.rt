@@ -16,9 +16,10 @@ fn row_within(words: &[u64], row_words: usize, place: usize) -> &[u64]
     &words[start..start + row_words]
 }
 
-/// Rows of one epoch, which are kept word after word.
+/// Rows of one epoch, each of as many words, which are kept word after word: at most 64 words a row, and at most 2^24 rows. A pool has two
+/// generations; tables of rows of bits use one alone.
 #[derive(Drop)]
-pub(crate) struct Generation {
+pub struct Generation {
     epoch: u64,
     row_words: usize,
     used: usize,
@@ -43,7 +44,7 @@ impl Model for Generation {
 
 impl Generation {
     /// A generation without rows, with room for so many.
-    pub(crate) fn open(
+    pub fn open(
         alloc: Global,
         epoch: u64,
         row_words: usize,
@@ -66,21 +67,21 @@ impl Generation {
     }
 
     /// The epoch.
-    pub(crate) fn epoch(&self) -> u64
+    pub fn epoch(&self) -> u64
         ensures { result ≡ self.now.epoch }
     {
         self.epoch
     }
 
     /// The number of rows.
-    pub(crate) fn len(&self) -> usize
+    pub fn len(&self) -> usize
         ensures { result ≡ length self.now.rows }
     {
         self.used
     }
 
     /// The row at a place.
-    pub(crate) fn row(&self, place: usize) -> &[u64]
+    pub fn row(&self, place: usize) -> &[u64]
         requires { place < length self.now.rows }
         ensures { result.now ≡ slice_index_or self.now.rows place [] }
     {
@@ -88,7 +89,7 @@ impl Generation {
     }
 
     /// One row more, for which there is room.
-    pub(crate) fn push(&mut self, words: &[u64])
+    pub fn push(&mut self, words: &[u64])
         requires row { length words.now ≡ self.old.row_words }
         requires room { (length self.old.rows + 1) * self.old.row_words ≤ self.old.room }
         requires few { length self.old.rows < MOST_ROWS }
@@ -104,7 +105,7 @@ impl Generation {
     }
 
     /// Room for so many rows in all.
-    pub(crate) fn reserve(&mut self, rows: usize) -> Result<(), NoMemory>
+    pub fn reserve(&mut self, rows: usize) -> Result<(), NoMemory>
         requires few { rows ≤ MOST_ROWS }
         requires more { length self.old.rows ≤ rows }
         ensures kept { IsKept self.old self.new }
@@ -116,7 +117,7 @@ impl Generation {
     }
 
     /// Gives all rows up and begins another epoch.
-    pub(crate) fn restart(&mut self, epoch: u64)
+    pub fn restart(&mut self, epoch: u64)
         ensures epoch { self.new.epoch ≡ epoch }
         ensures row_words { self.new.row_words ≡ self.old.row_words }
         ensures empty { self.new.rows ≡ [] }

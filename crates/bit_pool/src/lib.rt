@@ -10,6 +10,7 @@ mod limits;
 mod pool;
 
 pub use faults::{Full, NoMemory, RowFault, RowId, Stale};
+pub use generation::Generation;
 pub use laws::{rows_stay, width_stays};
 pub use limits::{MOST_ROWS, MOST_TURNS, MOST_WIDTH};
 pub use pool::RowPool;

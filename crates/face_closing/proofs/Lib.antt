@@ -1,0 +1,4 @@
+pub mod SetWords
+mod Links
+mod Closings
+pub mod MeetRows
