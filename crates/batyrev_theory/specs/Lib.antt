@@ -1,0 +1,10 @@
+pub use Rattle.face_theory.specs.Faces
+pub use Rattle.face_theory.specs.Pairings
+pub use Rattle.duality_theory.specs.Reflexive
+pub use Rattle.duality_theory.specs.Lists
+pub mod Interior
+pub mod FaceSums
+pub mod Numbers
+pub mod Tables
+pub mod Laws
+pub mod Examples
