@@ -1,0 +1,9 @@
+use Rattle.std.proofs.Common.{◌≡◌, ◌++◌, take}
+use Rattle.std.specs.List.{flat_map}
+use Rattle.palp_print.specs.Blocks.{normal_line}
+use Rattle.palp_print.proofs.blocks.put_normals.Given as goal
+
+abbrev pub invariant-loop-facet : goal.invariant-loop-facet
+invariant-loop-facet l = record {
+  written : l.text.items ≡ l.initial.text.items ++ flat_map normal_line (take l.facet-index l.facets);
+}

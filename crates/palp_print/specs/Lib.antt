@@ -1,0 +1,6 @@
+pub mod Texts
+pub mod Notes
+pub mod Blocks
+pub mod Lists
+pub mod Pages
+pub mod Examples

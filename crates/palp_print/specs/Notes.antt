@@ -1,0 +1,68 @@
+-- The notes: one line each. This project's own.
+use Rattle.std.specs.Prelude.{ℕ, List, ◌++◌, codes}
+use Rattle.std.specs.Fmt.{decimal}
+use Rattle.lattice_core.specs.declared.faults.Refusal.{Refusal}
+use Rattle.lattice_core.specs.declared.faults.Refusal.TheVariants.{Flat, Limit}
+use Rattle.lattice_core.specs.declared.faults.LimitName.{LimitName}
+use Rattle.lattice_core.specs.declared.faults.LimitName.TheVariants.{Systems, Weights, Degree, DegreeProduct, Frame, Dim, Input, Monomials, Size, Facets, Vertices, Points}
+use Rattle.palp_words.specs.declared.fault.WordKind.{WordKind}
+use Rattle.palp_words.specs.declared.fault.WordKind.TheVariants as words
+use Rattle.palp_input.specs.declared.fault.TextKind.{TextKind}
+use Rattle.palp_input.specs.declared.fault.TextKind.TheVariants as texts
+use Rattle.palp_print.specs.Texts.{function_text}
+use Rattle.palp_print.specs.declared.notes.Note.{Note}
+use Rattle.palp_print.specs.declared.notes.Note.TheVariants.{Words, Text, Refused, TextLimit, NotBuilt, ReadFault, WriteFault, NoMemory}
+
+-- the name of a limit
+abbrev pub limit_name : LimitName → List ℕ
+limit_name Systems = codes "Systems"
+limit_name Weights = codes "Weights"
+limit_name Degree = codes "Degree"
+limit_name DegreeProduct = codes "DegreeProduct"
+limit_name Frame = codes "Frame"
+limit_name Dim = codes "Dim"
+limit_name Input = codes "Input"
+limit_name Monomials = codes "Monomials"
+limit_name Size = codes "Size"
+limit_name Facets = codes "Facets"
+limit_name Vertices = codes "Vertices"
+limit_name Points = codes "Points"
+
+-- what the note says of a refusal
+abbrev pub refusal_text : Refusal → List ℕ
+refusal_text (Flat f) = codes "flat: " ++ function_text f
+refusal_text (Limit name told) = codes "limit " ++ (limit_name name ++ (codes ": " ++ decimal told))
+
+-- the name of a fault of a word
+abbrev pub word_kind_name : WordKind → List ℕ
+word_kind_name words.Missing = codes "Missing"
+word_kind_name words.Command = codes "Command"
+word_kind_name words.Flag = codes "Flag"
+word_kind_name words.Number = codes "Number"
+word_kind_name words.Range = codes "Range"
+word_kind_name words.Extra = codes "Extra"
+word_kind_name words.Conflict = codes "Conflict"
+
+-- the name of a fault of a text
+abbrev pub text_kind_name : TextKind → List ℕ
+text_kind_name texts.BadNumber = codes "BadNumber"
+text_kind_name texts.NumberRange = codes "NumberRange"
+text_kind_name texts.MatrixShort = codes "MatrixShort"
+text_kind_name texts.WeightSum = codes "WeightSum"
+text_kind_name texts.Lengths = codes "Lengths"
+text_kind_name texts.ZeroColumn = codes "ZeroColumn"
+text_kind_name texts.NoWeights = codes "NoWeights"
+text_kind_name texts.Quotient = codes "Quotient"
+text_kind_name texts.BadByte = codes "BadByte"
+
+-- the line of a note
+abbrev pub note_line : Note → List ℕ
+note_line (Words fault) = codes "palp: word " ++ (decimal fault.index ++ (codes ": " ++ (word_kind_name fault.kind ++ codes "\n")))
+note_line (Text fault) = codes "palp: line " ++ (decimal fault.line ++ (codes " column " ++ (decimal fault.column ++ (codes ": "
+    ++ (text_kind_name fault.kind ++ codes "\n")))))
+note_line (Refused item cause) = codes "palp: item " ++ (decimal item ++ (codes ": " ++ (refusal_text cause ++ codes "\n")))
+note_line TextLimit = codes "palp: text limit\n"
+note_line NotBuilt = codes "palp: not built\n"
+note_line ReadFault = codes "palp: read fault\n"
+note_line WriteFault = codes "palp: write fault\n"
+note_line NoMemory = codes "palp: no memory\n"
