@@ -27,7 +27,7 @@ use Rattle.hull.specs.Built.{IsBuilt}
 use Rattle.hull_growth.proofs.Small.{no_facet, solid_at, one_more, fewer_sized}
 use Rattle.hull_growth.proofs.MorePoints.{dimension_more, more_are_points, more_are_solid}
 use Rattle.hull.proofs.BuilderFacts.{has_facets}
-use Rattle.hull.specs.steps.Growing.{IsGrowing, others_than}
+use Rattle.hull.specs.steps.Growing.{IsGrowing, IsWholeHull, others_than}
 
 -- where the facets of some points aren't negative at any, they are those of all
 pub facets_of_points : (n : ℕ) (corners points : List (List ℤ)) (facets : List Affine) → HaveDimension n corners → (IsFlat n corners → ⊥)
@@ -246,6 +246,19 @@ growing_facets points corners facets done s g h rest =
     (subst (λ (n : ℕ). HaveDimension n corners) g.dimension s.sized.are_points.one_dimension)
     (subst (λ (n : ℕ). IsFlat n corners → ⊥) g.dimension s.solid) g.among
     (subst (λ (n : ℕ). HasFacets n corners facets) g.dimension h) (growing_done points corners facets done g rest)
+
+-- so, in order, they are those of the corners and of the points
+pub growing_whole : (points corners : List (List ℤ)) (facets sorted : List Affine) (done : ℕ) → AreSolidPoints corners
+    → IsGrowing points corners facets done → HasFacets (dimension_of corners) corners facets
+    → AllWithin (IsNonnegative points) facets done (length facets) → Ascends FunctionLess sorted
+    → ((f : Affine) → Contains sorted f ↔ Contains facets f) → IsWholeHull points corners sorted
+growing_whole points corners facets sorted done s g h rest ascends same = record {
+  dimension = g.dimension;
+  among = g.among;
+  solid = s;
+  own = (facets_listed (dimension_of corners) corners facets sorted h ascends same).members;
+  whole = facets_listed (dimension_of points) points facets sorted (growing_facets points corners facets done s g h rest) ascends same;
+}
 
 -- and of the points with one more, where the corners with it have these facets
 pub built_more : (points : List (List ℤ)) (growth : GrownHull) (p : List ℤ) (new : List Affine) → IsBuilt points growth

@@ -11,6 +11,7 @@ pub mod BuilderFacts
 mod TightRows
 mod CandidatePoints
 pub mod Growing
+mod WholeHulls
 mod SimplexFacets
 mod SimplexExchange
 mod SimplexSizes

@@ -35,7 +35,7 @@ no_others ((a ∷ p) ∷ points) [] (more h d) e = absurd (omega arith)
 no_others ([] ∷ points) [] (more h d) e = no_others points [] d e
 
 -- and each is a vertex
-vertex_without : (points : List (List ℤ)) (v : List ℤ) → HaveDimension 0 points → Contains points v → IsVertex 0 points v
+pub vertex_without : (points : List (List ℤ)) (v : List ℤ) → HaveDimension 0 points → Contains points v → IsVertex 0 points v
 vertex_without points v d c = record { member = c; outside = λ h. outside h }
   where
     below : pos 0 ≤ℤ (pos 0 +ℤ negsuc 0) → ⊥

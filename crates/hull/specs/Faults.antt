@@ -1,5 +1,5 @@
 -- What the hull's calls are refused for, and in which order. This project's own.
-use Rattle.std.specs.Prelude.{◌≡◌, ℕ, ◌<◌, List, length, ℤ}
+use Rattle.std.specs.Prelude.{◌≡◌, ℕ, ◌<◌, ◌≤◌, List, length, ℤ}
 use Rattle.lattice_theory.specs.Affine.{Affine}
 use Rattle.lattice_theory.specs.Size.{size}
 use Rattle.lattice_theory.specs.Hull.{AreVertices}
@@ -24,6 +24,13 @@ pub record HasManyVertices (n : ℕ) (points : List (List ℤ)) (told : ℕ) : T
   pub are_vertices : AreVertices n points vertices
   pub count : told ≡ length vertices
   pub many : MOST_VERTICES < told
+
+-- the points aren't flat and have few facets
+pub record HaveFewFacets (n : ℕ) (points : List (List ℤ)) : Type 0 where
+  pub solid : IsFlat n points → ⊥
+  pub facets : List Affine
+  pub are_facets : AreFacets n points facets
+  pub few : length facets ≤ MOST_FACETS
 
 -- the size is told, and it is above the limit
 abbrev pub IsSizeLimit : ℕ → List (List ℤ) → LimitName → ℕ → Type 0
@@ -60,3 +67,14 @@ IsSizeRefusal n points (refusals.Limit name told) = IsSizeLimit n points name to
 abbrev pub IsStartRefusal : ℕ → List (List ℤ) → Refusal → Type 0
 IsStartRefusal n points (refusals.Flat f) = IsSized n points × IsFlatFunction n points f
 IsStartRefusal n points (refusals.Limit name told) = IsSizeLimit n points name told
+
+-- the limits on facets and vertices: the size, the number of facets, and then that of vertices
+abbrev pub IsPolytopeLimit : ℕ → List (List ℤ) → LimitName → ℕ → Type 0
+IsPolytopeLimit n points limits.Vertices told = IsSized n points × HaveFewFacets n points × HasManyVertices n points told
+IsPolytopeLimit n points name told = IsFacetsLimit n points name told
+
+-- facets and vertices of points are refused by the points' size, then with the flat function, then by the number of facets, and then by that of
+-- vertices
+abbrev pub IsPolytopeRefusal : ℕ → List (List ℤ) → Refusal → Type 0
+IsPolytopeRefusal n points (refusals.Flat f) = IsSized n points × IsFlatFunction n points f
+IsPolytopeRefusal n points (refusals.Limit name told) = IsPolytopeLimit n points name told

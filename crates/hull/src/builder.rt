@@ -10,7 +10,7 @@ ghost use Rattle.lattice_core.specs.Stops.{Stops};
 ghost use Rattle.hull.specs.Faults.{IsSizeRefusal, IsStartRefusal};
 ghost use Rattle.hull_growth.specs.Grown.{HasFacets};
 
-use crate::facets::{all_facets, sized, solid};
+use crate::facets::{sized, solid, whole_hull};
 use hull_growth::Growth;
 use lattice_core::{Fault, Functional, NoMemory, Point};
 use std::alloc::Global;
@@ -76,7 +76,7 @@ impl HullBuilder {
         ensures no_memory { result ≡ Err Fault.NoMemory → AreSolidPoints points.now }
     {
         solid(points)?;
-        let facets = all_facets(alloc, points)?;
+        let (_corners, facets) = whole_hull(alloc, points)?;
         let growth = Growth::new(alloc, copied_points(alloc, points)?, facets)?;
         let points = copied_points(alloc, points)?;
         Ok(HullBuilder { points, growth })

@@ -10,6 +10,7 @@ ghost use Rattle.lattice_core.specs.Dimensions.{dimension_of};
 ghost use Rattle.lattice_core.specs.PointLists.{ArePoints, AreSizedPoints, AreSolidPoints};
 ghost use Rattle.lattice_core.specs.Stops.{Stops};
 ghost use Rattle.lattice_core.specs.ValueWidths.{IsWithin};
+ghost use Rattle.hull.specs.steps.Growing.{IsWholeHull};
 ghost use Rattle.hull.specs.Faults.{IsSizeRefusal, IsStartRefusal, IsFacetsRefusal};
 
 use crate::flat::flat_function;
@@ -21,11 +22,15 @@ use lattice_core::{
 };
 use std::alloc::Global;
 
-/// All facets of points within the size limit that aren't flat, each once, ordered by normal and then by constant. The hull grows from a first
-/// simplex: for the first facet beyond which there are points by the farthest of these. A facet beyond which there is none is done.
-pub(crate) fn all_facets(alloc: Global, points: &[Point]) -> Result<Vec<Functional>, NoMemory>
+/// The hull of points within the size limit that aren't flat: some of the points, its corners, and all facets, each once, ordered by normal and
+/// then by constant. It grows from a first simplex: for the first facet beyond which there are points by the farthest of these. A facet beyond
+/// which there is none is done.
+pub(crate) fn whole_hull(
+    alloc: Global,
+    points: &[Point],
+) -> Result<(Vec<Point>, Vec<Functional>), NoMemory>
     requires points { AreSolidPoints points.now }
-    ensures { IfOk result (λ fs. AreFacets (dimension_of points.now) points.now fs.items) }
+    ensures { IfOk result (λ hull. IsWholeHull points.now hull.0.items hull.1.items) }
 {
     let (corners, functions) = first_simplex(alloc, points)?;
     let mut growth = Growth::new(alloc, corners, functions)?;
@@ -34,9 +39,9 @@ pub(crate) fn all_facets(alloc: Global, points: &[Point]) -> Result<Vec<Function
         growth.grow(&points[beyond.point])?;
         done = beyond.facet;
     }
-    let mut facets = growth.into_facets();
+    let (corners, mut facets) = growth.into_parts();
     ascending_functions(&mut facets);
-    Ok(facets)
+    Ok((corners, facets))
 }
 
 /// Refuses points that are too large.
@@ -66,6 +71,22 @@ pub(crate) fn solid(points: &[Point]) -> Result<(), Refusal>
     }
 }
 
+/// All facets of points with 1 to 6 coordinates, however many, each once, ordered by normal and then by constant. There is at least one point;
+/// points may repeat. Refused are points whose size is above the limit of their dimension (the size is told), and then flat points (with their
+/// flat function); neither needs memory. Without memory for the facets it is `NoMemory`. Source: math/0204356, section 2.
+pub fn all_facets(alloc: Global, points: &[Point]) -> Result<Vec<Functional>, Fault>
+    requires points { ArePoints points.now }
+    ensures facets { IfOk result (λ fs. AreFacets (dimension_of points.now) points.now fs.items) }
+    ensures solid { OnOk result (AreSolidPoints points.now) }
+    ensures bounded { IfOk result (λ fs. All (IsWithin (dimension_of points.now) (size (dimension_of points.now) points.now)) fs.items) }
+    ensures refused { IfErr result (Stops (IsStartRefusal (dimension_of points.now) points.now)) }
+    ensures no_memory { result ≡ Err Fault.NoMemory → AreSolidPoints points.now }
+{
+    solid(points)?;
+    let (_corners, facets) = whole_hull(alloc, points)?;
+    Ok(facets)
+}
+
 /// All facets of points with 1 to 6 coordinates, each once, ordered by normal and then by constant. There is at least one point; points may
 /// repeat. Refused are, in this order, points whose size is above the limit of their dimension (the size is told), flat points (with their flat
 /// function), and points with more than 128 facets (their number is told). Without memory for the facets it is `NoMemory`; the first two
@@ -80,7 +101,6 @@ pub fn facets_of(alloc: Global, points: &[Point]) -> Result<Vec<Functional>, Fau
     ensures refused { IfErr result (Stops (IsFacetsRefusal (dimension_of points.now) points.now)) }
     ensures no_memory { result ≡ Err Fault.NoMemory → AreSolidPoints points.now }
 {
-    solid(points)?;
     let facets = all_facets(alloc, points)?;
     if facets.len() > MOST_FACETS {
         return Err(Fault::Refused(Refusal::Limit(LimitName::Facets, facets.len() as u128)));

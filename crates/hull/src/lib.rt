@@ -1,6 +1,6 @@
 //! Facets and vertices of the hull of points with 1 to 6 coordinates. It stands on `lattice_core` for numbers and points, on the laws of
 //! `elimination` and `facet_theory` for what they mean, and on `normal_bounds` for how large the numbers are. Its central theorem: `facets_of`
-//! gives exactly the facets of the definition, and `vertices_of` exactly the vertices.
+//! gives exactly the facets of the definition, `vertices_of` exactly the vertices, and `hull_of` both.
 #![tactic(auto)]
 
 mod bounds;
@@ -13,6 +13,7 @@ mod functions;
 mod kernel;
 mod member;
 mod planes;
+mod polytope;
 mod reduction;
 mod simplex;
 mod tight_rows;
@@ -20,9 +21,10 @@ mod vertices;
 
 pub use bounds::facets_bounded;
 pub use builder::HullBuilder;
-pub use facets::facets_of;
+pub use facets::{all_facets, facets_of};
 pub use flat::flat_function;
 pub use planes::hyperplane;
+pub use polytope::{Hull, hull_of};
 pub use vertices::vertices_of;
 
 #[cfg(test)]

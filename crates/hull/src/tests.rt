@@ -5,7 +5,7 @@ ghost use Rattle.lattice_theory.specs.Vector.{HaveDimension};
 ghost use Rattle.lattice_core.specs.Dimensions.{dimension_of};
 
 use crate::facets::sized;
-use crate::{HullBuilder, facets_of, flat_function, hyperplane, vertices_of};
+use crate::{HullBuilder, all_facets, facets_of, flat_function, hull_of, hyperplane, vertices_of};
 use lattice_core::{Fault, Functional, LimitName, NoMemory, Point, Refusal};
 use std::alloc::Global;
 use std::test::Fail;
@@ -43,7 +43,7 @@ fn are_points(found: &[Point], want: &[&[i64]]) -> bool {
 }
 
 /// The facets, and what the search for vertices answers.
-fn hull_of(
+fn facets_and_vertices(
     alloc: Global,
     points: &[Point],
 ) -> Result<(Vec<Functional>, Result<Vec<Point>, Fault>), Fault>
@@ -67,8 +67,15 @@ fn has_hull(
     if points.is_empty() {
         return Ok(false);
     }
-    let (facets, found) = hull_of(alloc, &points)?;
-    Ok(are_functions(&facets, normals, constants) && are_points(&found?, vertices))
+    let (facets, found) = facets_and_vertices(alloc, &points)?;
+    let hull = hull_of(alloc, &points)?;
+    Ok(
+        are_functions(&facets, normals, constants)
+            && are_functions(&hull.facets, normals, constants)
+            && are_functions(&all_facets(alloc, &points)?, normals, constants)
+            && are_points(&found?, vertices)
+            && are_points(&hull.vertices, vertices),
+    )
 }
 
 #[test]
@@ -163,7 +170,7 @@ fn counts(alloc: Global, n: usize, rows: &[&[i64]]) -> Result<(usize, usize), Fa
     if points.is_empty() {
         return Ok((0, 0));
     }
-    let (facets, vertices) = hull_of(alloc, &points)?;
+    let (facets, vertices) = facets_and_vertices(alloc, &points)?;
     Ok((facets.len(), vertices?.len()))
 }
 
@@ -341,11 +348,10 @@ fn prism(alloc: Global) -> Result<Vec<Point>, NoMemory>
 fn refuses_more_vertices_than_the_limit(rt: HostRuntime) -> Result<(), Fail> {
     let points = prism(rt.alloc())?;
     assert!(rt; !points.is_empty());
-    let (facets, vertices) = hull_of(rt.alloc(), &points)?;
+    let (facets, vertices) = facets_and_vertices(rt.alloc(), &points)?;
+    let refused = Some(Fault::Refused(Refusal::Limit(LimitName::Vertices, 130)));
     assert_eq!(rt; facets.len(), 67);
-    assert_eq!(rt;
-        vertices.err(),
-        Some(Fault::Refused(Refusal::Limit(LimitName::Vertices, 130)))
-    );
+    assert_eq!(rt; vertices.err(), refused);
+    assert_eq!(rt; hull_of(rt.alloc(), &points).err(), refused);
     Ok(())
 }

@@ -107,7 +107,7 @@ fn vertices_found(
 }
 
 /// All vertices of points that aren't flat, each once, in lexicographic order. `facets` are the points' facets, in any order.
-fn all_vertices(
+pub(crate) fn all_vertices(
     alloc: Global,
     points: &[Point],
     facets: &[Functional],

@@ -70,12 +70,13 @@ impl Growth {
         &self.facets.functions
     }
 
-    /// The same list, which the growth gives up. It takes no memory.
-    pub fn into_facets(self) -> Vec<Functional>
-        ensures { result.items ≡ self.facets }
+    /// The corners, in the order in which they came, and the same list of facets, which the growth gives up. It takes no memory.
+    pub fn into_parts(self) -> (Vec<Point>, Vec<Functional>)
+        ensures corners { result.0.items ≡ self.corners }
+        ensures facets { result.1.items ≡ self.facets }
     {
         let facets = self.facets;
-        facets.functions
+        (self.corners, facets.functions)
     }
 
     /// Whether a point of the same dimension lies in the hull of the corners. It takes no memory.

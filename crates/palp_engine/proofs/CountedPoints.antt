@@ -19,7 +19,8 @@ use Rattle.item_points.specs.Points.{HasPoints, AreItemPoints}
 use Rattle.item_points.proofs.WeightPoints.{weight_points_are_few}
 use Rattle.item_points.proofs.WeightLattice.{weight_points_are_all}
 use Rattle.point_scan.specs.Dilates.{AreDilatePoints, CountsDilatePoints}
-use Rattle.palp_engine.specs.Reports.{body_line, HaveFewFacets, HaveFewVertices, HaveManyPoints, IsBodyLine}
+use Rattle.hull.specs.Faults.{HaveFewFacets}
+use Rattle.palp_engine.specs.Reports.{body_line, HaveFewVertices, HaveManyPoints, IsBodyLine}
 use Rattle.palp_engine.specs.RunSteps.{CountsLatticePoints, AreAllAndFew, IsWeightLine}
 
 -- an item's points that aren't flat

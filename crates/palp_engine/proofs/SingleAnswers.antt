@@ -10,8 +10,8 @@ use Rattle.lattice_theory.proofs.Unique.{lists_unique}
 use Rattle.lattice_theory.proofs.FlatUnique.{flat_function_unique}
 use Rattle.lattice_core.specs.declared.faults.Refusal.TheVariants.{Flat, Limit}
 use Rattle.lattice_core.specs.declared.faults.LimitName.TheVariants.{Facets, Vertices, Points}
-use Rattle.hull.specs.Faults.{HasManyFacets, HasManyVertices}
-use Rattle.palp_engine.specs.Reports.{body_line, HaveFewFacets, HaveFewVertices, flat, many_facets, many_vertices, many_points}
+use Rattle.hull.specs.Faults.{HaveFewFacets, HasManyFacets, HasManyVertices}
+use Rattle.palp_engine.specs.Reports.{body_line, HaveFewVertices, flat, many_facets, many_vertices, many_points}
 use Rattle.palp_engine.specs.Laws.{OneLine, OneRefusal, LineOrRefusal}
 
 -- lattice points, vertices and facets are listed in one way

@@ -10,21 +10,14 @@ use Rattle.lattice_core.specs.declared.limits.TheConstants.{MOST_FACETS, MOST_VE
 use Rattle.lattice_core.specs.declared.faults.Refusal.{Refusal}
 use Rattle.lattice_core.specs.declared.faults.Refusal.TheVariants.{Flat, Limit}
 use Rattle.lattice_core.specs.declared.faults.LimitName.TheVariants.{Facets, Vertices, Points}
-use Rattle.hull.specs.Faults.{HasManyFacets, HasManyVertices}
+use Rattle.hull.specs.Faults.{HaveFewFacets, HasManyFacets, HasManyVertices}
 
 -- the line that tells the numbers of lattice points, vertices and facets
 abbrev pub body_line : ℕ → ℕ → ℕ → List ℕ
 body_line points vertices facets =
     codes "M:" ++ (decimal points ++ (codes " " ++ (decimal vertices ++ (codes " F:" ++ (decimal facets ++ codes "\n")))))
 
--- the points aren't flat and have few facets
-pub record HaveFewFacets (n : ℕ) (points : List (List ℤ)) : Type 0 where
-  pub solid : IsFlat n points → ⊥
-  pub facets : List Affine
-  pub are_facets : AreFacets n points facets
-  pub few : length facets ≤ MOST_FACETS
-
--- and they have few vertices
+-- the points aren't flat, and have few facets and few vertices
 pub record HaveFewVertices (n : ℕ) (points : List (List ℤ)) : Type 0 where
   pub faces : HaveFewFacets n points
   pub vertices : List (List ℤ)

@@ -12,7 +12,7 @@ ghost use Rattle.palp_engine.specs.Reports.{IsBodyLine, IsRefused};
 ghost use Rattle.palp_engine.specs.RunSteps.{CountsLatticePoints, AreAllAndFew};
 
 use crate::lines::{Line, body_line};
-use hull::{facets_of, vertices_of};
+use hull::hull_of;
 use lattice_core::{Fault, Functional, LimitName, MOST_POINTS, NoMemory, Point, Refusal};
 use point_scan::count_to;
 use std::alloc::Global;
@@ -47,12 +47,11 @@ pub(crate) fn body_of(alloc: Global, points: &[Point], complete: bool) -> Result
         (λ line. IsBodyLine (dimension_of points.now) points.now line.items)
         (Stops (IsRefused (dimension_of points.now) points.now)) }
 {
-    let facets = facets_of(alloc, points)?;
-    let vertices = vertices_of(alloc, points, facets.as_slice())?;
+    let hull = hull_of(alloc, points)?;
     let most = MOST_POINTS as u64;
-    let count = lattice_point_count(alloc, points, complete, &vertices, &facets)?;
+    let count = lattice_point_count(alloc, points, complete, &hull.vertices, &hull.facets)?;
     if count > most {
         return Err(Fault::Refused(Refusal::Limit(LimitName::Points, u128::from(count))));
     }
-    Ok(body_line(count, vertices.len() as u64, facets.len() as u64))
+    Ok(body_line(count, hull.vertices.len() as u64, hull.facets.len() as u64))
 }
