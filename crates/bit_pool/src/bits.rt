@@ -32,7 +32,7 @@ pub(crate) fn size_of_row(words: &[u64]) -> u32
 }
 
 /// Whether each number of the first set is in the second, of as many words.
-pub(crate) fn is_within(words: &[u64], others: &[u64]) -> bool
+pub fn is_within(words: &[u64], others: &[u64]) -> bool
     requires { length words.now ≡ length others.now }
     ensures { IsTrue result ↔ IsSubset words.now others.now }
 {

@@ -9,6 +9,7 @@ mod laws;
 mod limits;
 mod pool;
 
+pub use bits::is_within;
 pub use faults::{Full, NoMemory, RowFault, RowId, Stale};
 pub use generation::Generation;
 pub use laws::{rows_stay, width_stays};

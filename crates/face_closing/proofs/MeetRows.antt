@@ -18,14 +18,14 @@ use Rattle.face_theory.proofs.FaceTests.{meets_are_faces_lem}
 use Rattle.face_theory.proofs.MeetRanks.{common_face}
 use Rattle.face_closing.specs.Words.{set_of, IsSetOf, meet_words}
 use Rattle.face_closing.specs.Tables.{AreApart, IsMade, IsClosedBy, MakesTooMany, AreFunctionRows, AreMeetRows, AreFaceRows, HasMoreFaces}
-use Rattle.face_closing.proofs.SetWords.{same_words, set_of-meet, length-meet_words, meet_entry, meet_bit, bit_here}
+use Rattle.face_closing.proofs.SetWords.{same_words, set_of-meet, length-meet_words, meet_entry, meet_has, bit_here}
 
 -- what two sets have in common is a set
 pub meet_is_set : (count width : ℕ) (words others : List ℕ) → IsSetOf count width words → length others ≡ count → IsSetOf count width (meet_words words others)
 meet_is_set count width words others w e = record {
   many = length-meet_words words others (w.many ∙ sym e) ∙ w.many;
   small = All-from_get_or (λ x. x < 2 ^ 64) (meet_words words others) 0 small;
-  below = λ n l h. w.below n l (one n h);
+  below = λ n l h. w.below n l (meet_has words others (w.many ∙ sym e) n h);
 }
   where
     small : (k : ℕ) → k < length (meet_words words others) → get_or (meet_words words others) k 0 < 2 ^ 64
@@ -35,16 +35,6 @@ meet_is_set count width words others w e = record {
         let a = and_le_l (get_or words k 0) (get_or others k 0) in
         let s = w.small k 0 (omega arith) in
         omega arith
-
-    one : (n : ℕ) → HasBit (meet_words words others) n → HasBit words n
-    one n h =
-        let m = meet_bit words others (w.many ∙ sym e) n in
-        let p = bit_at-lt (get_or words (n / 64) 0) (n % 64) in
-        let q = bit_at-lt (get_or others (n / 64) 0) (n % 64) in
-        by (bit_of words n) (bit_of others n) (bit_of (meet_words words others) n) m h p q
-      where
-        by : (a b c : ℕ) → c ≡ min a b → c ≡ 1 → a < 2 → b < 2 → a ≡ 1
-        by a b c e h l m = omega arith
 
 -- words of one set are the same
 same_number : (a b : ℕ) → a < 2 → b < 2 → (a == 1) ≡ (b == 1) → a ≡ b

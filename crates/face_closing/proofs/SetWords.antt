@@ -4,7 +4,7 @@ use Rattle.std.specs.Prelude.{bit_xor}
 use Rattle.std.proofs.Common.{◌≡◌, ◌≢◌, ⊎_elim, ℕ, zero, suc, ◌+◌, ◌*◌, ◌/◌, ◌%◌, ◌^◌, ◌<◌, ◌≤◌, min, Bool, ◌&&◌, ◌==◌, List, [], ◌∷◌, length, get_or, bit_and, refl, sym, ap, ap₂, ◌∙◌, subst, arith}
 use Rattle.std.proofs.lemmas.Bool.{cases_lt}
 use Rattle.std.proofs.lemmas.Nat.Bits.{bit_at_and, bit_at_xor, bit_at-zero, bit_at-lt, bit_at-trailing_zeros, same_from_bits_below}
-use Rattle.bit_pool.specs.Bits.{bit_of}
+use Rattle.bit_pool.specs.Bits.{bit_of, HasBit}
 use Rattle.face_theory.specs.Sets.{numbers_with, common}
 use Rattle.face_closing.specs.Words.{set_of, meet_words, IsEarlier}
 
@@ -129,3 +129,11 @@ same_words [] (o ∷ others) e h = absurd (omega arith)
 same_words (w ∷ words) [] e h = absurd (omega arith)
 same_words (w ∷ words) (o ∷ others) e h = ap₂ (λ (z : ℕ) (r : List ℕ). z ∷ r) (h 0 (omega arith))
     (same_words words others (omega arith) (λ k l. h (suc k) (omega arith)))
+
+-- a number that two sets have in common is in the first
+pub meet_has : (words others : List ℕ) → length words ≡ length others → (n : ℕ) → HasBit (meet_words words others) n → HasBit words n
+meet_has words others e n h = by (bit_of words n) (bit_of others n) (bit_of (meet_words words others) n) (meet_bit words others e n) h
+    (bit_at-lt _ _) (bit_at-lt _ _)
+  where
+    by : (a b c : ℕ) → c ≡ min a b → c ≡ 1 → a < 2 → b < 2 → a ≡ 1
+    by a b c e h l m = omega arith

@@ -1,6 +1,6 @@
 //! The closing of a table under what its rows have in common with others.
 ghost use Rattle.std.specs.Prelude.{◌≡◌, length};
-ghost use Rattle.std.specs.Bool.{MatchBool};
+ghost use Rattle.std.specs.Bool.{MatchBool, OnTrue};
 ghost use Rattle.std.specs.List.{All};
 ghost use Rattle.face_theory.specs.Faces.{TightRelation};
 ghost use Rattle.face_closing.specs.Tables.{AreApart, IsClosedBy, MakesTooMany, AreFunctionRows, AreMeetRows, AreFaceRows, HasMoreFaces};
@@ -36,6 +36,7 @@ pub fn close(table: &mut RowTable, rows: &Generation, space: &mut [u64]) -> bool
     requires apart { AreApart table.old.rows }
     ensures words { table.new.row_words ≡ table.old.row_words }
     ensures space { length space.new ≡ length space.old }
+    ensures apart { OnTrue result (AreApart table.new.rows) }
     ensures faces { (R : TightRelation) → AreFunctionRows table.old.row_words R rows.now.rows → AreMeetRows table.old.row_words R 0 table.old.rows
         → MatchBool result (AreFaceRows table.old.row_words R table.new.rows) (HasMoreFaces R) }
 {

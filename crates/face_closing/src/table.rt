@@ -63,6 +63,7 @@ impl RowTable {
         requires { place < length self.now.rows }
         ensures value { result.now ≡ slice_index_or self.now.rows place [] }
         ensures words { length result.now ≡ self.now.row_words }
+        ensures table { IsRowTable self.now }
     {
         self.rows.row(place)
     }

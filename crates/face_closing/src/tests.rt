@@ -1,6 +1,9 @@
-//! Tables of rows, and the faces of the square.
-use crate::{RowTable, close, compare, meet_into};
+//! Tables of rows, and the faces of the square and of a segment.
+ghost use Rattle.std.specs.Prelude.{◌≡◌, vec_capacity, IfOk};
+
+use crate::{RowTable, close, compare, meet_into, rank_into, sort_into};
 use bit_pool::Generation;
+use std::alloc::Global;
 use std::cmp::Ordering;
 use std::test::Fail;
 
@@ -56,5 +59,29 @@ fn closes_the_sides_of_the_square(rt: HostRuntime) -> Result<(), Fail> {
     assert!(rt; table.find(&[0]).is_some());
     assert!(rt; table.find(&[0b0100]).is_some());
     assert_eq!(rt; table.find(&[0b0101]), None);
+    Ok(())
+}
+
+/// An empty list with room for 4,096 numbers.
+fn list(alloc: Global) -> Result<Vec<u16>, Fail>
+    ensures { IfOk result (λ v. vec_capacity v ≡ 4096) }
+{
+    Ok(Vec::with_capacity(alloc, 4_096)?)
+}
+
+#[test]
+fn sorts_and_ranks_the_faces_of_a_segment(rt: HostRuntime) -> Result<(), Fail> {
+    let mut ends = Generation::open(rt.alloc(), 0, 1, 2)?;
+    ends.push(&[0b01]);
+    ends.push(&[0b10]);
+    let mut table = RowTable::open(rt.alloc(), 1)?;
+    table.push(&[0b11]);
+    assert!(rt; close(&mut table, &ends, &mut [0]));
+    let mut sorted = RowTable::open(rt.alloc(), 1)?;
+    sort_into(&mut sorted, &table, &mut list(rt.alloc())?);
+    let mut ranks = list(rt.alloc())?;
+    rank_into(&mut ranks, &sorted, &ends, &mut [0]);
+    assert_eq!(rt; sorted.find(&[0b01]), Some(1));
+    assert_eq!(rt; ranks.as_slice(), [2, 1, 1, 0].as_slice());
     Ok(())
 }

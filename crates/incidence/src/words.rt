@@ -6,7 +6,7 @@ ghost use Rattle.incidence.specs.RowSteps.{HasRow};
 use bit_pool::RowPool;
 
 /// Puts a number into the set that words tell.
-pub(crate) fn put_bit(words: &mut [u64], number: usize)
+pub fn put_bit(words: &mut [u64], number: usize)
     requires { number / 64 < length words.old }
     ensures count { length words.new ≡ length words.old }
     ensures bits { (n : ℕ) → HasBit words.new n ↔ (HasBit words.old n ⊎ (n ≡ number)) }
