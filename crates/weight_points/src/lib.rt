@@ -15,3 +15,4 @@ mod waits;
 
 pub use laws::{exponents_are_small, given_vectors_are_all};
 pub use monomials::{MOST_COUNT, Monomials, count_to};
+pub use waits::{NEVER, waits_of};

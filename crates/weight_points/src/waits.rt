@@ -9,7 +9,7 @@ use lattice_core::NoMemory;
 use std::alloc::Global;
 
 /// What tables tell of a number that the weights don't take. It is above all degrees.
-pub(crate) const NEVER: u16 = 65_535;
+pub const NEVER: u16 = 65_535;
 
 /// What a table of no weights tells of a number.
 fn wait_of_none(number: usize) -> u16
@@ -60,12 +60,9 @@ fn waits_before(alloc: Global, behind: &[u16], weight: usize) -> Result<Vec<u16>
     Ok(waits)
 }
 
-/// The same for all places, the last one first, behind the table of no weights, for each number up to the degree.
-pub(crate) fn waits_of(
-    alloc: Global,
-    weights: &[u64],
-    degree: u64,
-) -> Result<Vec<Vec<u16>>, NoMemory>
+/// How often the weight at each place is taken at least before the weights behind it take exactly what is left, or `NEVER` where they don't, for
+/// each number up to the degree, which is within its limit. The table of no weights comes first, then that of the last place. This project's own.
+pub fn waits_of(alloc: Global, weights: &[u64], degree: u64) -> Result<Vec<Vec<u16>>, NoMemory>
     requires { degree ≤ MOST_DEGREE }
     ensures { IfOk result (λ tables. AreTables weights.now degree (map (λ waits. waits.items) tables.items)) }
 {
@@ -76,4 +73,23 @@ pub(crate) fn waits_of(
         tables.push(next)?;
     }
     Ok(tables)
+}
+
+#[cfg(test)]
+mod tests {
+    use super::*;
+    use std::test::Fail;
+
+    #[test]
+    fn tells_how_often_each_weight_is_taken(rt: HostRuntime) -> Result<(), Fail> {
+        let tables = waits_of(rt.alloc(), &[1, 2, 3], 4)?;
+        assert_eq!(rt; tables.len(), 4);
+        assert_eq!(rt;
+            tables[1].as_slice(),
+            [0, NEVER, NEVER, 1, NEVER].as_slice()
+        );
+        assert_eq!(rt; tables[2].as_slice(), [0, NEVER, 1, 0, 2].as_slice());
+        assert_eq!(rt; tables[3].as_slice(), [0, 1, 0, 0, 0].as_slice());
+        Ok(())
+    }
 }

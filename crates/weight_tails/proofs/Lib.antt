@@ -1,0 +1,3 @@
+mod Listing
+mod Monomials
+mod Sizes

@@ -1,0 +1,14 @@
+use Rattle.std.proofs.Common.{◌≡◌, ◌-◌, length, take}
+use Rattle.weight_tails.specs.steps.Listing.{AddsEach}
+use Rattle.weight_tails.proofs.Listing.{IsListedBelow}
+use Rattle.weight_tails.proofs.tails.+add_tails.Given as goal
+
+abbrev pub decreases-add_tails : goal.decreases-add_tails
+decreases-add_tails l = length l.weights.now - l.place
+
+abbrev pub invariant-loop-value : goal.invariant-loop-value
+invariant-loop-value l = record {
+  columns : length l.entries ≡ length l.initial.entries;
+  kept : take l.place l.entries ≡ take l.place l.initial.entries;
+  tails : AddsEach (IsListedBelow l.weights l.initial.entries l.place l.left l.value) l.initial.tails.items l.tails.items;
+}
