@@ -1,9 +1,10 @@
 -- Quotients that are rounded down.
 use Rattle.std.specs.Prelude.{ℤ, pos, negsuc, neg_ℤ, nat_abs, ◌+ℤ◌, ◌-ℤ◌, ◌*ℤ◌, ◌≤ℤ◌, ◌<ℤ◌, ◌↔◌}
 use Rattle.std.specs.Int.{int_div_euclid}
-use Rattle.std.proofs.Common.{◌≡◌, ◌⊎◌, inl, inr, ℕ, ◌+◌, ◌*◌, ◌/◌, ◌<◌, ◌≤◌, refl, arith}
-use Rattle.std.proofs.lemmas.Int.{ints}
-use Rattle.std.proofs.Math.Nat.{mul-div-le, mod-lt, div-add-mod'}
+use mir.Syntax.{w128}
+use Rattle.std.proofs.Common.{◌≡◌, ◌⊎◌, inl, inr, ℕ, ◌+◌, ◌*◌, ◌/◌, ◌^◌, ◌<◌, ◌≤◌, refl, arith, to_z, of_z, SFits}
+use Rattle.std.proofs.lemmas.Int.{ints, to_z-of_z, unsigned_abs-mul, fits_signed_from_abs}
+use Rattle.std.proofs.Math.Nat.{mul-div-le, mod-lt, div-add-mod', mul-le-mul}
 use Rattle.lattice_theory.proofs.Integers.{linear, products_out, product_nonnegative, *ℤ-neg}
 use Rattle.region_walk.specs.steps.Spans.{IsBetween}
 
@@ -89,3 +90,34 @@ span_to most low high Q means below v = (
   λ b. ((b.0, omega (arith, ints, b.1)), (means v).0 b.1),
   λ b. (b.0.0, (means v).1 b.1),
 )
+
+-- a rising function that isn't negative at the least value of a span is negative at none of them
+rising_above : (slope rest low v : ℤ) → pos 0 <ℤ slope → low ≤ℤ v → pos 0 ≤ℤ (slope *ℤ low +ℤ rest) → pos 0 ≤ℤ (slope *ℤ v +ℤ rest)
+rising_above slope rest low v h l k =
+    let more = simp products_out at (product_nonnegative slope (v -ℤ low) (omega (arith, linear)) (omega (arith, linear))) in
+    omega (arith, ints)
+
+pub rising_keeps : (slope rest low high : ℤ) → pos 0 <ℤ slope → pos 0 ≤ℤ (slope *ℤ low +ℤ rest) → (v : ℤ)
+    → (IsBetween low high v → IsBetween low high v × (pos 0 ≤ℤ (slope *ℤ v +ℤ rest)))
+    × (IsBetween low high v × (pos 0 ≤ℤ (slope *ℤ v +ℤ rest)) → IsBetween low high v)
+rising_keeps slope rest low high h k v = (λ b. (b, rising_above slope rest low v h b.0 k), λ b. b.0)
+
+-- the same of a falling one at the greatest
+falling_below : (slope rest high v : ℤ) → slope <ℤ pos 0 → v ≤ℤ high → pos 0 ≤ℤ (slope *ℤ high +ℤ rest) → pos 0 ≤ℤ (slope *ℤ v +ℤ rest)
+falling_below slope rest high v h l k =
+    let more = simp products_out at (product_nonnegative (neg_ℤ slope) (high -ℤ v) (omega (arith, linear)) (omega (arith, linear))) in
+    omega (arith, ints)
+
+pub falling_keeps : (slope rest low high : ℤ) → slope <ℤ pos 0 → pos 0 ≤ℤ (slope *ℤ high +ℤ rest) → (v : ℤ)
+    → (IsBetween low high v → IsBetween low high v × (pos 0 ≤ℤ (slope *ℤ v +ℤ rest)))
+    × (IsBetween low high v × (pos 0 ≤ℤ (slope *ℤ v +ℤ rest)) → IsBetween low high v)
+falling_keeps slope rest low high h k v = (λ b. (b, falling_below slope rest high v h b.1 k), λ b. b.0)
+
+-- such a value in 128 bits
+pub value_exact : (a b r : ℤ) → nat_abs a ≤ 2 ^ 63 → nat_abs b ≤ 2 ^ 63 → nat_abs r ≤ 2 ^ 104
+    → to_z w128 (of_z w128 (to_z w128 (of_z w128 (a *ℤ b)) +ℤ r)) ≡ a *ℤ b +ℤ r
+value_exact a b r h k l =
+    let bound : nat_abs (a *ℤ b) ≤ 2 ^ 63 * 2 ^ 63 = rw unsigned_abs-mul (mul-le-mul h k) in
+    let product : SFits w128 (a *ℤ b) = fits_signed_from_abs w128 (a *ℤ b) (omega arith) in
+    let whole : SFits w128 (a *ℤ b +ℤ r) = fits_signed_from_abs w128 (a *ℤ b +ℤ r) (omega (arith, ints)) in
+    simp to_z-of_z

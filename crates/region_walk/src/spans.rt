@@ -95,6 +95,47 @@ fn lowered(span: Span, slope: i64, rest: i128) -> Option<Span>
     }
 }
 
+/// The function's value at a value of the coordinate.
+#[inline]
+fn value_with(slope: i64, rest: i128, value: i64) -> i128
+    requires { nat_abs rest ≤ 2 ^ 104 }
+    ensures { result ≡ slope *ℤ value +ℤ rest }
+{
+    i128::from(slope) * i128::from(value) + rest
+}
+
+/// The values of the span from where the rising function isn't negative any more. Nothing is divided where these are all.
+#[inline]
+fn cut_from_below(span: Span, slope: i64, rest: i128) -> Option<Span>
+    requires span { span.low ≤ℤ span.high }
+    requires rising { pos 0 <ℤ slope }
+    requires small { nat_abs rest ≤ 2 ^ 104 }
+    ensures ordered { IfSome result (λ s. s.low ≤ℤ s.high) }
+    ensures some { IfSome result (λ s. (v : ℤ) → IsBetween s.low s.high v ↔ IsBetween span.low span.high v × pos 0 ≤ℤ (slope *ℤ v +ℤ rest)) }
+    ensures none { IfNone result ((v : ℤ) → IsBetween span.low span.high v → pos 0 ≤ℤ (slope *ℤ v +ℤ rest) → ⊥) }
+{
+    if value_with(slope, rest, span.low) >= 0 {
+        return Some(span);
+    }
+    raised(span, slope, rest)
+}
+
+/// The values of the span up to where the falling function isn't negative yet. Nothing is divided where these are all.
+#[inline]
+fn cut_from_above(span: Span, slope: i64, rest: i128) -> Option<Span>
+    requires span { span.low ≤ℤ span.high }
+    requires falling { slope <ℤ pos 0 }
+    requires small { nat_abs rest ≤ 2 ^ 104 }
+    ensures ordered { IfSome result (λ s. s.low ≤ℤ s.high) }
+    ensures some { IfSome result (λ s. (v : ℤ) → IsBetween s.low s.high v ↔ IsBetween span.low span.high v × pos 0 ≤ℤ (slope *ℤ v +ℤ rest)) }
+    ensures none { IfNone result ((v : ℤ) → IsBetween span.low span.high v → pos 0 ≤ℤ (slope *ℤ v +ℤ rest) → ⊥) }
+{
+    if value_with(slope, rest, span.high) >= 0 {
+        return Some(span);
+    }
+    lowered(span, slope, rest)
+}
+
 /// The values of the span at which the function isn't negative.
 #[inline]
 fn cut(span: Span, slope: i64, rest: i128) -> Option<Span>
@@ -105,9 +146,9 @@ fn cut(span: Span, slope: i64, rest: i128) -> Option<Span>
     ensures none { IfNone result ((v : ℤ) → IsBetween span.low span.high v → pos 0 ≤ℤ (slope *ℤ v +ℤ rest) → ⊥) }
 {
     if slope > 0 {
-        raised(span, slope, rest)
+        cut_from_below(span, slope, rest)
     } else if slope < 0 {
-        lowered(span, slope, rest)
+        cut_from_above(span, slope, rest)
     } else if rest >= 0 {
         Some(span)
     } else {
