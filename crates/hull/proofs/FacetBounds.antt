@@ -5,12 +5,16 @@ use Rattle.std.proofs.lemmas.List.Elements.{All-contains, All-weaker, All-contai
 use Rattle.lattice_theory.specs.Vector.{HaveDimension}
 use Rattle.lattice_theory.specs.Affine.{Affine, Vanishes, IsMultiple}
 use Rattle.lattice_theory.specs.Size.{size, absolute_sum}
-use Rattle.lattice_theory.specs.Facet.{IsFlat, AreFacets}
+use Rattle.lattice_theory.specs.Facet.{IsFlat, IsFacet, AreFacets, AreFacetsInAnyOrder}
+use Rattle.lattice_theory.proofs.Members.{in_from_contains, contains_from_in}
+use Rattle.lattice_theory.proofs.Sizes.{fewer_size}
+use Rattle.facet_theory.specs.Solid.{AreSolid}
 use Rattle.facet_theory.proofs.FacetPoints.{facet_by_points_lem}
 use Rattle.normal_bounds.specs.Bounds.{IsFixedBy}
 use Rattle.normal_bounds.proofs.Sizes.{all_within, point_absolute_sum_lem}
 use Rattle.normal_bounds.proofs.Normals.{normal_bound_lem}
-use Rattle.lattice_core.specs.ValueWidths.{IsWithin}
+use Rattle.lattice_core.specs.ValueWidths.{IsWithin, FitsWidth, Serves}
+use Rattle.lattice_core.specs.declared.value_widths.Width.{Width}
 use Rattle.hull_growth.proofs.Small.{size_positive, no_facet, solid_at}
 use Rattle.hull.specs.Laws.{FacetsBounded}
 
@@ -50,6 +54,33 @@ facets_bounded_lem (suc k) points s f h = by (facet_by_points_lem (suc k) points
         → IsWithin (suc k) (size (suc k) points) f
     by (on, l, inside, v, det) = fixed_within k points on f s.dimension (size_positive (suc k) points s f h) l inside
         (record { dimension = h.dimension; primitive = h.primitive; vanishes = v; determined = det })
+
+-- a facet of some of the points is within the bound for all
+corner_facet_within : (k : ℕ) (points corners : List (List ℤ)) (f : Affine) → HaveDimension (suc k) points → AreSolid (suc k) corners
+    → ((c : List ℤ) → Contains corners c → Contains points c) → IsFacet (suc k) corners f → IsWithin (suc k) (size (suc k) points) f
+corner_facet_within k points corners f d solid among facet = by (facet_by_points_lem (suc k) corners solid f facet)
+  where
+    positive : 1 ≤ size (suc k) points
+    positive =
+        let less = fewer_size (suc k) corners points (λ p i. in_from_contains points (among p (contains_from_in i))) in
+        let some = size_positive (suc k) corners solid f facet in omega arith
+
+    by : (on : List (List ℤ)) × (length on ≡ suc k) × ((p : List ℤ) → Contains on p → Contains corners p) × Vanishes on f
+        × ((g : Affine) → length g.normal ≡ suc k → Vanishes on g → IsMultiple g f)
+        → IsWithin (suc k) (size (suc k) points) f
+    by (on, l, inside, v, det) = fixed_within k points on f d positive l (λ p c. among p (inside p c))
+        (record { dimension = facet.dimension; primitive = facet.primitive; vanishes = v; determined = det })
+
+-- so the values of such facets at all points fit the width that serves the points' size
+pub corner_facets_fit : (n : ℕ) (points corners : List (List ℤ)) (facets : List Affine) (width : Width) → 1 ≤ n → HaveDimension n points
+    → HaveDimension n corners → (IsFlat n corners → ⊥) → ((c : List ℤ) → Contains corners c → Contains points c)
+    → AreFacetsInAnyOrder n corners facets → Serves n (size n points) width → All (λ f. All (FitsWidth width f) points) facets
+corner_facets_fit zero points corners facets width some d e s among h serves = absurd (omega (arith, some))
+corner_facets_fit (suc k) points corners facets width some d e s among h serves =
+    All-weaker (Contains facets) (λ f. All (FitsWidth width f) points)
+    (λ f c. All-weaker (λ p. absolute_sum p ≤ size (suc k) points) (FitsWidth width f)
+    (λ p small. serves f p (corner_facet_within k points corners f d (solid_at k corners e s) among ((h f).0 c)) small) points
+    (point_absolute_sum_lem (suc k) points d)) facets (All-contains_itself facets)
 
 -- so all facets of a list are within the bound
 pub facets_within : (n : ℕ) (points : List (List ℤ)) (facets : List Affine) → HaveDimension n points → (IsFlat n points → ⊥)

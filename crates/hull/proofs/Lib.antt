@@ -12,6 +12,7 @@ mod TightRows
 mod CandidatePoints
 pub mod Growing
 mod WholeHulls
+mod LastPoints
 mod SimplexFacets
 mod SimplexExchange
 mod SimplexSizes

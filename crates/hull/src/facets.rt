@@ -1,9 +1,9 @@
 //! The facets of points.
 
-ghost use Rattle.std.specs.Prelude.{◌≡◌, ◌≤◌, length, Err, IfOk, OnOk, IfErr};
+ghost use Rattle.std.specs.Prelude.{◌≡◌, ◌≤◌, length, Err, IfOk, OnOk, IfErr, IsTrue};
 ghost use Rattle.std.specs.List.{All};
 ghost use Rattle.lattice_theory.specs.Size.{size};
-ghost use Rattle.lattice_theory.specs.Facet.{AreFacets};
+ghost use Rattle.lattice_theory.specs.Facet.{IsFlat, AreFacets};
 ghost use Rattle.lattice_core.specs.declared.faults.Fault.TheVariants as Fault;
 ghost use Rattle.lattice_core.specs.declared.limits.TheConstants.{MOST_FACETS};
 ghost use Rattle.lattice_core.specs.Dimensions.{dimension_of};
@@ -18,7 +18,7 @@ use crate::simplex::first_simplex;
 use hull_growth::{Growth, first_beyond};
 use lattice_core::{
     Fault, Functional, LimitName, MOST_FACETS, NoMemory, Point, Refusal, ascending_functions,
-    size_limit, size_of,
+    size_limit, size_of, width_of,
 };
 use std::alloc::Global;
 
@@ -32,10 +32,12 @@ pub(crate) fn whole_hull(
     requires points { AreSolidPoints points.now }
     ensures { IfOk result (λ hull. IsWholeHull points.now hull.0.items hull.1.items) }
 {
+    let n = points[0].dim();
+    let width = width_of(n, size_of(n, points));
     let (corners, functions) = first_simplex(alloc, points)?;
     let mut growth = Growth::new(alloc, corners, functions)?;
     let mut done = 0;
-    while let Some(beyond) = first_beyond(growth.facets(), points, done) {
+    while let Some(beyond) = first_beyond(growth.facets(), points, done, width) {
         growth.grow(&points[beyond.point])?;
         done = beyond.facet;
     }
@@ -58,6 +60,19 @@ pub(crate) fn sized(points: &[Point]) -> Result<(), Refusal>
     Ok(())
 }
 
+/// How many of the last points are looked at first.
+const LAST_POINTS: usize = 24;
+
+/// Whether the last few of the points aren't flat. In lists of lattice points in order these are mostly far from each other, and then all points
+/// aren't flat.
+fn are_last_solid(points: &[Point]) -> bool
+    requires points { AreSizedPoints points.now }
+    ensures { IsTrue result → IsFlat (dimension_of points.now) points.now → ⊥ }
+{
+    let from = points.len().saturating_sub(LAST_POINTS);
+    flat_function(&points[from..]).is_none()
+}
+
 /// Refuses points that are too large, and then flat ones.
 pub(crate) fn solid(points: &[Point]) -> Result<(), Refusal>
     requires points { ArePoints points.now }
@@ -65,6 +80,9 @@ pub(crate) fn solid(points: &[Point]) -> Result<(), Refusal>
     ensures refused { IfErr result (IsStartRefusal (dimension_of points.now) points.now) }
 {
     sized(points)?;
+    if are_last_solid(points) {
+        return Ok(());
+    }
     match flat_function(points) {
         Some(function) => Err(Refusal::Flat(function)),
         None => Ok(()),

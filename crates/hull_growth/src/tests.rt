@@ -5,7 +5,7 @@ ghost use Rattle.lattice_theory.specs.Examples.{segment};
 ghost use Rattle.lattice_theory.proofs.SegmentFacets.{lower, upper};
 
 use crate::{Beyond, Growth, first_beyond};
-use lattice_core::{Functional, NoMemory, Point};
+use lattice_core::{Functional, NoMemory, Point, Width};
 use std::alloc::Global;
 use std::test::Fail;
 
@@ -74,7 +74,7 @@ fn right_points(alloc: Global) -> Result<Vec<Point>, NoMemory>
 fn beyond(alloc: Global) -> Result<Option<Beyond>, NoMemory> {
     let facets = facets(alloc)?;
     let points = right_points(alloc)?;
-    Ok(first_beyond(&facets, &points, 0))
+    Ok(first_beyond(&facets, &points, 0, Width::Narrow))
 }
 
 /// The constants of the facets of the segment and a point.

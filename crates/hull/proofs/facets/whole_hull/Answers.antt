@@ -1,10 +1,13 @@
-use Rattle.std.proofs.Common.{rules, ◌≡◌, ◌↔◌, ◌<◌, List, length, ℤ, sym, ◌∙◌, subst, Contains}
+use Rattle.std.proofs.Common.{rules, ℕ, ◌≡◌, ◌↔◌, ◌<◌, List, length, ℤ, sym, ◌∙◌, subst, Contains}
 use Rattle.std.proofs.lemmas.List.Elements.{All-contains}
 use Rattle.lattice_theory.specs.Affine.{Affine}
 use Rattle.lattice_core.specs.Dimensions.{dimension_of}
 use Rattle.hull_growth.specs.Beyond.{IsFirstBeyond}
 use Rattle.hull_growth.specs.Grown.{HasFacets}
-use Rattle.hull_growth.proofs.Small.{points_bound, facets_constants}
+use Rattle.lattice_theory.specs.Vector.{HaveDimension}
+use Rattle.lattice_theory.specs.Facet.{IsFlat, AreFacetsInAnyOrder}
+use Rattle.lattice_core.proofs.Dimension.{dimension_first}
+use Rattle.hull.proofs.FacetBounds.{corner_facets_fit}
 use Rattle.hull.specs.steps.Growing.{IsGrowing, IsWholeHull}
 use Rattle.hull.proofs.Growing.{beyond_within, beyond_new, beyond_behind, facets_match, facets_dimension_of, turn_within, growing_more, growing_whole, others_less}
 use Rattle.hull.proofs.facets.whole_hull.Goals as goal
@@ -15,16 +18,19 @@ first_beyond-requires-clause-dimension c = facets_match (dimension_of c.args.poi
     c.facets.result.now c.requires.points.sized.are_points.one_dimension
     (subst (λ n. HasFacets n c.loop-beyond.growth.corners c.facets.result.now) c.loop-beyond.invariant.dimension c.facets.ensures.facets)
 
-pub first_beyond-requires-clause-small : goal.first_beyond-requires-clause-small
-first_beyond-requires-clause-small c = points_bound (dimension_of c.args.points.now) c.args.points.now
-    c.requires.points.sized.are_points.one_dimension c.requires.points.sized.within
-
-pub first_beyond-requires-clause-constants : goal.first_beyond-requires-clause-constants
-first_beyond-requires-clause-constants c =
+pub first_beyond-requires-clause-fits : goal.first_beyond-requires-clause-fits
+first_beyond-requires-clause-fits c =
+    let points = c.args.points.now in
+    let n_is : c.dim-n.result ≡ dimension_of points = c.dim-n.ensures.value
+    ∙ dimension_first points c.index-points-0.result c.requires.points.sized.are_points.some c.index-points-0.is in
     let corners = c.loop-beyond.growth.corners in
-    let solid = c.facets.ensures.solid in
-    facets_constants (dimension_of corners) corners c.facets.result.now solid.sized.are_points.one_dimension solid.solid solid.sized.within
-    c.facets.ensures.facets.members
+    let own = c.facets.ensures.solid in
+    corner_facets_fit (dimension_of points) points corners c.facets.result.now c.width_of-width.result (rw n_is at c.dim-n.ensures.least)
+    c.requires.points.sized.are_points.one_dimension
+    (subst (λ (n : ℕ). HaveDimension n corners) c.loop-beyond.invariant.dimension own.sized.are_points.one_dimension)
+    (subst (λ (n : ℕ). IsFlat n corners → ⊥) c.loop-beyond.invariant.dimension own.solid) c.loop-beyond.invariant.among
+    (subst (λ (n : ℕ). AreFacetsInAnyOrder n corners c.facets.result.now) c.loop-beyond.invariant.dimension c.facets.ensures.facets.members)
+    (rw (c.size_of.ensures, n_is) at c.width_of-width.ensures.serves)
 
 pub offset_bounds-points-beyond : goal.offset_bounds-points-beyond
 offset_bounds-points-beyond c =

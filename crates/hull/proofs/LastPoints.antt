@@ -1,0 +1,60 @@
+-- Some of the points, as the last few: they are within the size limit as all are, and flat where all are.
+use Rattle.std.proofs.Common.{◌≡◌, ℕ, ◌<◌, List, length, take, drop, length-drop, ℤ, pos, sym, subst, All, Contains, true, Some, None, arith}
+use Rattle.std.specs.Prelude.{◌-◌, Option, MatchOption, is_none}
+use Rattle.std.proofs.lemmas.Bool.{true≢false}
+use Rattle.std.proofs.lemmas.List.{length-take, take-append-drop}
+use Rattle.std.proofs.lemmas.List.Elements.{All-contains, All-weaker, All-contains_itself, Contains-append_left, Contains-append_right}
+use Rattle.lattice_theory.specs.Vector.{HaveDimension}
+use Rattle.lattice_theory.specs.Affine.{value}
+use Rattle.lattice_theory.specs.Facet.{IsFlat}
+use Rattle.lattice_core.specs.Dimensions.{dimension_of}
+use Rattle.lattice_core.specs.Limits.{IsSized}
+use Rattle.lattice_core.specs.PointLists.{AreSizedPoints}
+use Rattle.lattice_core.proofs.Dimension.{dimension_is}
+use Rattle.hull_growth.proofs.Small.{fewer_sized, fewer_dimension}
+
+-- the points from a place on
+abbrev pub last_of : ℕ → List (List ℤ) → List (List ℤ)
+last_of from points = take (length points - from) (drop from points)
+
+pub last_among : (from : ℕ) (points : List (List ℤ)) (p : List ℤ) → Contains (last_of from points) p → Contains points p
+last_among from points p c =
+    subst (λ (ps : List (List ℤ)). Contains ps p) (take-append-drop from points)
+    (Contains-append_right (take from points) (drop from points) p
+    (subst (λ (ps : List (List ℤ)). Contains ps p) (take-append-drop (length points - from) (drop from points))
+    (Contains-append_left (last_of from points) (drop (length points - from) (drop from points)) p c)))
+
+pub last_some : (from : ℕ) (points : List (List ℤ)) → from < length points → 0 < length (last_of from points)
+last_some from points h =
+    let d = length-drop from points in
+    let t = length-take (length points - from) (drop from points) in
+    omega arith
+
+-- what holds where there is no value
+pub of_none : {X : Type 0} (o : Option X) (P : Type 0) (Q : X → Type 0) → is_none o ≡ true → MatchOption o P Q → P
+of_none None P Q e h = h
+of_none (Some x) P Q e h = absurd (true≢false (sym e))
+
+module _ (points few : List (List ℤ)) (sized : AreSizedPoints points) (some : 0 < length few)
+    (among : (p : List ℤ) → Contains few p → Contains points p) where
+  -- they have the points' dimension
+  dimension : HaveDimension (dimension_of points) few
+  dimension = fewer_dimension (dimension_of points) few points among sized.are_points.one_dimension
+
+  same : dimension_of few ≡ dimension_of points
+  same = dimension_is (dimension_of points) few some dimension
+
+  pub fewer_sized_points : AreSizedPoints few
+  fewer_sized_points = record {
+    are_points = record { some = some; one_dimension = subst (λ (n : ℕ). HaveDimension n few) (sym same) dimension };
+    within = subst (λ (n : ℕ). IsSized n few) (sym same) (fewer_sized (dimension_of points) few points among sized.within);
+  }
+
+  pub fewer_solid : (IsFlat (dimension_of few) few → ⊥) → IsFlat (dimension_of points) points → ⊥
+  fewer_solid solid flat = solid (subst (λ (n : ℕ). IsFlat n few) (sym same) (record {
+    function = flat.function;
+    dimension = flat.dimension;
+    nonconstant = flat.nonconstant;
+    vanishes = All-weaker (Contains few) (λ p. value flat.function p ≡ pos 0)
+        (λ p c. All-contains (λ q. value flat.function q ≡ pos 0) points p flat.vanishes (among p c)) few (All-contains_itself few);
+  }))
