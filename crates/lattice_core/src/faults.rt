@@ -48,6 +48,10 @@ pub enum LimitName {
     Vertices,
     /// The number of lattice points.
     Points,
+    /// The size of the dual's vertices.
+    DualSize,
+    /// The number of the dual's lattice points.
+    DualPoints,
 }
 
 /// Why an item is refused.

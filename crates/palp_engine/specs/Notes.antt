@@ -6,7 +6,7 @@ use Rattle.lattice_theory.specs.Affine.{Affine}
 use Rattle.lattice_core.specs.declared.faults.Refusal.{Refusal}
 use Rattle.lattice_core.specs.declared.faults.Refusal.TheVariants.{Flat, Limit}
 use Rattle.lattice_core.specs.declared.faults.LimitName.{LimitName}
-use Rattle.lattice_core.specs.declared.faults.LimitName.TheVariants.{Systems, Weights, Degree, DegreeProduct, Frame, Dim, Input, Monomials, Size, Facets, Vertices, Points}
+use Rattle.lattice_core.specs.declared.faults.LimitName.TheVariants.{Systems, Weights, Degree, DegreeProduct, Frame, Dim, Input, Monomials, Size, Facets, Vertices, Points, DualSize, DualPoints}
 use Rattle.palp_io.specs.Sink.{SinkState, Gains, IsGiveFault}
 use Rattle.palp_words.specs.declared.fault.WordKind.{WordKind}
 use Rattle.palp_words.specs.declared.fault.WordKind.TheVariants as words
@@ -29,6 +29,8 @@ limit_name Size = codes "Size"
 limit_name Facets = codes "Facets"
 limit_name Vertices = codes "Vertices"
 limit_name Points = codes "Points"
+limit_name DualSize = codes "DualSize"
+limit_name DualPoints = codes "DualPoints"
 
 -- the normal's entries, each with a space behind it, and then the constant
 abbrev pub function_text : Affine → List ℕ

@@ -4,7 +4,7 @@ use Rattle.std.specs.Fmt.{decimal}
 use Rattle.lattice_core.specs.declared.faults.Refusal.{Refusal}
 use Rattle.lattice_core.specs.declared.faults.Refusal.TheVariants.{Flat, Limit}
 use Rattle.lattice_core.specs.declared.faults.LimitName.{LimitName}
-use Rattle.lattice_core.specs.declared.faults.LimitName.TheVariants.{Systems, Weights, Degree, DegreeProduct, Frame, Dim, Input, Monomials, Size, Facets, Vertices, Points}
+use Rattle.lattice_core.specs.declared.faults.LimitName.TheVariants.{Systems, Weights, Degree, DegreeProduct, Frame, Dim, Input, Monomials, Size, Facets, Vertices, Points, DualSize, DualPoints}
 use Rattle.palp_words.specs.declared.fault.WordKind.{WordKind}
 use Rattle.palp_words.specs.declared.fault.WordKind.TheVariants as words
 use Rattle.palp_input.specs.declared.fault.TextKind.{TextKind}
@@ -27,6 +27,8 @@ limit_name Size = codes "Size"
 limit_name Facets = codes "Facets"
 limit_name Vertices = codes "Vertices"
 limit_name Points = codes "Points"
+limit_name DualSize = codes "DualSize"
+limit_name DualPoints = codes "DualPoints"
 
 -- what the note says of a refusal
 abbrev pub refusal_text : Refusal → List ℕ

@@ -50,6 +50,8 @@ fn name_of(limit: LimitName) -> &'static [u8]
         LimitName::Facets => b"Facets",
         LimitName::Vertices => b"Vertices",
         LimitName::Points => b"Points",
+        LimitName::DualSize => b"DualSize",
+        LimitName::DualPoints => b"DualPoints",
     }
 }
 
