@@ -1,0 +1,3 @@
+pub mod VertexPoints
+pub mod VertexLists
+pub mod PolytopeStops
