@@ -1,6 +1,5 @@
 -- Rows that are added to a pool one after another, and the words of a row.
-use Rattle.std.specs.List.{All}
-use Rattle.std.proofs.Common.{◌≡◌, ◌⊎◌, inl, inr, ⊎_elim, ◌↔◌, ℕ, zero, suc, ◌+◌, ◌/◌, ◌%◌, ◌^◌, ◌<◌, ◌≤◌, Bool, List, [], ◌∷◌, ◌++◌, length, take, get_or, refl, sym, ap, ◌∙◌, subst, arith, length-append, length-take, append_assoc, append-nil, not-suc-le-zero, le_of_suc-le-suc}
+use Rattle.std.proofs.Common.{◌≡◌, ◌⊎◌, ⊎_elim, ◌↔◌, ℕ, ◌+◌, ◌/◌, ◌%◌, ◌^◌, ◌<◌, ◌≤◌, Bool, List, [], ◌∷◌, ◌++◌, length, take, get_or, refl, sym, ap, ◌∙◌, subst, arith, length-append, length-take, append_assoc, append-nil}
 use Rattle.std.specs.Int.{bit_at}
 use Rattle.std.proofs.Math.ListN.{get_or-append}
 use Rattle.std.proofs.Math.Seq.{get_or-append_seam}
@@ -10,7 +9,7 @@ use Rattle.std.proofs.lemmas.List.Elements.{All-from_get_or, All-nil, All-push}
 use Rattle.bit_pool.specs.Bits.{HasBit, IsRow, words_for}
 use Rattle.bit_pool.specs.Pools.{PoolState, pushed}
 use Rattle.bit_pool.proofs.Sets.{no_bit_beyond}
-use Rattle.incidence.specs.Incidences.{HasExactly, with_rows}
+use Rattle.incidence.specs.Incidences.{HasExactly}
 use Rattle.incidence.specs.RowSteps.{AddsRows, HasRow}
 
 -- nothing was added

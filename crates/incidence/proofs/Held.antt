@@ -1,15 +1,15 @@
 -- What pools keep of incidences, and what their rows tell.
 use Rattle.std.specs.Prelude.{Some, IsTrue}
-use Rattle.std.proofs.Common.{◌≡◌, ⊎_elim, inl, inr, ◌↔◌, ℕ, ◌+◌, ◌<◌, ◌≤◌, ◌==◌, Bool, List, length, refl, sym, ap, ◌∙◌, subst, arith, length-append}
+use Rattle.std.proofs.Common.{◌≡◌, ⊎_elim, inr, ◌↔◌, ℕ, ◌+◌, ◌<◌, ◌≤◌, ◌==◌, List, length, Result, Ok, refl, sym, ap, ◌∙◌, subst, arith, length-append}
 use Rattle.std.proofs.lemmas.Bool.Decides.{eqb_tells}
 use Rattle.std.proofs.lemmas.Option.{same_Some}
 use Rattle.face_theory.specs.Faces.{TightRelation}
 use Rattle.face_theory.proofs.Sets.{true_false}
 use Rattle.bit_pool.specs.Bits.{HasBit, bit_of}
-use Rattle.bit_pool.specs.Pools.{PoolState, IsPool, OnRow, row_of}
-use Rattle.bit_pool.specs.Changes.{IsLater, AreGiven}
+use Rattle.bit_pool.specs.Pools.{PoolState, OnRow, row_of}
+use Rattle.bit_pool.specs.declared.faults.Full.{Full}
 use Rattle.bit_pool.proofs.Stays.{rows_stay_lem, width_stays_lem}
-use Rattle.incidence.specs.Incidences.{IncidenceState, HasExactly, Tells, Agree, IsHeld, IsPast, IsToldIn, told, words_or_none, member_id, function_id}
+use Rattle.incidence.specs.Incidences.{IncidenceState, HasExactly, Tells, Agree, IsHeld, IsPast, IsTold, told, words_or_none, member_id, function_id}
 use Rattle.incidence.specs.Laws.{ToldRowsAgree, MadeIsHeld, HeldStays, RowsTell, ToldIsSingle}
 
 -- the words that an id names are those of which something holds
@@ -121,3 +121,8 @@ told_is_single_lem pool i R t m f lm lf =
       λ s. ((row.holds f).0 ((told_at pool i m f row.words row.named).0 s)).1,
       λ r. (told_at pool i m f row.words row.named).1 ((row.holds f).1 ((let n = t.functions in omega arith), r)),
     )
+
+-- the same of an answer
+pub told_held : (before now : PoolState) (R : TightRelation) (answer : Result IncidenceState Full) (i : IncidenceState) → R.members ≤ before.width
+    → R.functions ≤ before.width → answer ≡ Ok i → IsTold before now R answer → IsHeld now i × IsPast now i
+told_held before now R answer i wm wf e h = made_is_held_lem before now i R wm wf (subst (IsTold before now R) e h)

@@ -1,17 +1,17 @@
 -- Numbers that are small enough for values in 64 bits.
 use Rattle.std.specs.List.{All, Contains}
-use Rattle.std.proofs.Common.{◌≡◌, ℕ, zero, suc, ◌+◌, ◌*◌, ◌/◌, ◌^◌, ◌<◌, ◌≤◌, List, length, get_or, nat_abs, ℤ, pos, arith, subst, sym, ap, ◌∙◌, ◌↔◌}
+use Rattle.std.proofs.Common.{◌≡◌, ℕ, ◌+◌, ◌*◌, ◌/◌, ◌^◌, ◌<◌, ◌≤◌, List, length, get_or, ℤ, pos, arith, subst, sym, ap, ◌∙◌, ◌↔◌}
 use Rattle.std.proofs.Math.Nat.{div-mul-le_self, mul-le-mul_left}
 use Rattle.std.specs.Prelude.{IsTrue}
 use Rattle.std.proofs.lemmas.List.{get_or_default}
-use Rattle.std.proofs.lemmas.List.Elements.{All-contains, All-get_or, All-weaker}
+use Rattle.std.proofs.lemmas.List.Elements.{All-contains, All-weaker}
 use Rattle.lattice_theory.specs.Affine.{Affine, value}
 use Rattle.lattice_theory.specs.Vector.{HaveDimension}
 use Rattle.lattice_theory.specs.Size.{absolute_sum, size}
 use Rattle.normal_bounds.proofs.Sizes.{point_absolute_sum_lem}
 use Rattle.face_theory.specs.Pairings.{is_zero, vector_at, function_at}
 use Rattle.face_theory.proofs.Climbs.{is_zero-true}
-use Rattle.lattice_core.specs.ValueWidths.{IsNarrowAt, IsWideAt}
+use Rattle.lattice_core.specs.ValueWidths.{IsNarrowAt}
 use Rattle.incidence.specs.Incidences.{HaveValues}
 use Rattle.incidence.specs.RowSteps.{IsSmall}
 
@@ -39,13 +39,6 @@ narrow points functions n bound d e small f p mf mp = record {
       let product : bound * absolute_sum p ≤ bound * size n points = mul-le-mul_left bound sum in
       let most = within (2 ^ 62) (size n points) bound e in
       omega arith;
-}
-
-pub wide : (points : List (List ℤ)) (functions : List Affine) → HaveValues points functions → (f : Affine) (p : List ℤ) → Contains functions f
-    → Contains points p → IsWideAt f p
-wide points functions h f p mf mp = record {
-  point = All-contains (λ q. absolute_sum q ≤ 2 ^ 33) points p h.small mp;
-  constant = All-contains (λ g. nat_abs g.constant ≤ 2 ^ 100) functions f h.constants mf;
 }
 
 -- the function, or the point, at a place of a list

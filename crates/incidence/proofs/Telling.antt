@@ -1,7 +1,7 @@
 -- The rows of members and then those of functions tell the relation.
 use Rattle.std.specs.List.{All}
-use Rattle.std.specs.Prelude.{if◌then◌else◌, slice_get, Option, None, Some}
-use Rattle.std.proofs.Common.{◌≡◌, ⊎_elim, ℕ, ◌+◌, ◌<◌, ◌==◌, Bool, true, List, [], ◌++◌, length, get_or, refl, sym, ap, ◌∙◌, subst, arith, length-append, append_assoc}
+use Rattle.std.specs.Prelude.{Some}
+use Rattle.std.proofs.Common.{◌≡◌, ℕ, ◌+◌, ◌<◌, List, [], ◌++◌, length, get_or, sym, ap, ◌∙◌, subst, arith, length-append, append_assoc}
 use Rattle.std.proofs.Math.ListN.{get_or-append}
 use Rattle.std.proofs.lemmas.List.{get_or-append-add}
 use Rattle.std.proofs.lemmas.List.Elements.{All-append}
@@ -10,7 +10,7 @@ use Rattle.face_theory.specs.Faces.{TightRelation}
 use Rattle.bit_pool.specs.Bits.{IsRow}
 use Rattle.bit_pool.specs.Pools.{PoolState, row_of}
 use Rattle.bit_pool.proofs.Stays.{young_row}
-use Rattle.incidence.specs.Incidences.{IncidenceState, HasExactly, with_rows, member_id, function_id, IsToldIn}
+use Rattle.incidence.specs.Incidences.{IncidenceState, HasExactly, with_rows, IsToldIn}
 use Rattle.incidence.specs.RowSteps.{AddsRows, IsPlanned}
 use Rattle.incidence.proofs.Added.{same_width}
 

@@ -1,4 +1,4 @@
-use Rattle.std.proofs.Common.{◌≡◌, ℕ, ◌+◌, ◌*◌, ◌<◌, ◌≤◌, false, length, slice_index_or}
+use Rattle.std.proofs.Common.{◌≡◌, ◌+◌, ◌*◌, false, length, slice_index_or}
 use Rattle.incidence.specs.Incidences.{HasExactly}
 use Rattle.incidence.proofs.table.table_row.Given as goal
 

@@ -1,5 +1,5 @@
-use Rattle.std.proofs.Common.{length, sym, rules, ap, ◌<◌, ◌+◌, ◌/◌, ◌^◌, ◌∙◌}
-use Rattle.incidence.proofs.SmallValues.{have_dimension, narrow, wide}
+use Rattle.std.proofs.Common.{length, sym, rules, ap, ◌<◌, ◌+◌, ◌/◌, ◌^◌}
+use Rattle.incidence.proofs.SmallValues.{have_dimension, narrow}
 use Rattle.incidence.proofs.values.width_for.Goals as goal
 
 pub size_of-size-requires-clause-dimension : goal.size_of-size-requires-clause-dimension

@@ -1,4 +1,4 @@
-use Rattle.std.proofs.Common.{◌≡◌, ◌+◌, ◌/◌, ◌≤◌, length, ap, arith}
+use Rattle.std.proofs.Common.{◌+◌, ◌/◌, ◌≤◌, length, ap, arith}
 use Rattle.bit_pool.specs.Bits.{words_for}
 use Rattle.incidence.proofs.Added.{front_row, front_same}
 use Rattle.incidence.proofs.words.push_words.Goals as goal
