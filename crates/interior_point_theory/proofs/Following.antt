@@ -7,7 +7,7 @@ use Rattle.interior_point_theory.specs.Interior.{system_of}
 use Rattle.interior_point_theory.specs.Laws.{WeightsMayFollow}
 use Rattle.interior_point_theory.proofs.LargestWeights.{largest_weights_lem}
 
-total-append : (b rest : List ℕ) → total (b ++ rest) ≡ total b + total rest
+pub total-append : (b rest : List ℕ) → total (b ++ rest) ≡ total b + total rest
 total-append [] rest = omega arith
 total-append (w ∷ b) rest = let e = total-append b rest in omega arith
 

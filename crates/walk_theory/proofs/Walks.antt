@@ -47,7 +47,7 @@ to_turn f v (suc k) u x l h i = by (cases_lt v u) (λ m. to_turn f (suc v) k u x
     by (inr m) later = let same : u ≡ v = omega arith in in_append_left (in_turn f (suc v) k) (subst (λ (w : ℕ). In x (f w)) same i)
 
 -- of two lists that differ first behind one beginning, the one with the smaller number there comes first
-less_behind : (b : List ℕ) (v u : ℕ) (x y : List ℕ) → v < u → NumbersLess (b ++ v ∷ x) (b ++ u ∷ y)
+pub less_behind : (b : List ℕ) (v u : ℕ) (x y : List ℕ) → v < u → NumbersLess (b ++ v ∷ x) (b ++ u ∷ y)
 less_behind [] v u x y h = inl (omega (arith, linear))
 less_behind (w ∷ b) v u x y h = inr (refl, less_behind b v u x y h)
 

@@ -1,4 +1,4 @@
-mod Sums
+pub mod Sums
 mod Surrounding
 mod Checks
 mod Refuting

@@ -1,3 +1,3 @@
 mod Listing
 mod Monomials
-mod Sizes
+pub mod Sizes

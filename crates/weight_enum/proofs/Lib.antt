@@ -1,0 +1,4 @@
+mod Ascending
+mod PrimitiveParts
+mod Sizes
+mod InteriorPoints
