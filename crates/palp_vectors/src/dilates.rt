@@ -44,7 +44,7 @@ fn vector(number: u32, n: usize) -> [i64; 6] {
 }
 
 /// The vectors of the dilate with entries from -6 to 6.
-fn filtered(
+pub(crate) fn filtered(
     alloc: Global,
     facets: &[Functional],
     dilate: u32,
@@ -88,7 +88,7 @@ fn are_agreed(alloc: Global, vertices: &[Point]) -> Result<bool, Fault> {
 }
 
 /// A simplex, a cross-polytope and a thin simplex.
-fn shape(alloc: Global, n: usize, which: u32) -> Result<Vec<Point>, NoMemory> {
+pub(crate) fn shape(alloc: Global, n: usize, which: u32) -> Result<Vec<Point>, NoMemory> {
     let mut points = Vec::new(alloc);
     add_axes(&mut points, n, 1)?;
     if which == 0 {

@@ -19,4 +19,6 @@ mod streams;
 #[cfg(test)]
 mod texts;
 #[cfg(test)]
+mod visits;
+#[cfg(test)]
 mod words;

@@ -51,7 +51,7 @@ pub(crate) fn count_of(
 ) -> Result<u64, Fault>
     requires vertices { ArePoints vertices.now }
     requires dilate { dilate ≤ 7 }
-    requires limit { limit ≤ 16_384 }
+    requires limit { limit ≤ 1_099_511_627_776 }
 {
     let facets = facets_of(alloc, vertices)?;
     Ok(count_to(alloc, vertices, &facets, dilate, limit)?)
