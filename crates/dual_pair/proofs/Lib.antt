@@ -1,3 +1,4 @@
 pub mod VertexPoints
 pub mod VertexLists
 pub mod PolytopeStops
+pub mod UnitSegment

@@ -10,3 +10,6 @@ mod polytope;
 
 pub use laws::{polytope_of_vertices, polytopes_are_single};
 pub use polytope::Polytope;
+
+#[cfg(test)]
+mod tests;
