@@ -1,0 +1,6 @@
+pub mod BitSteps
+pub mod FaceLists
+pub mod RowCopies
+pub mod ListedFaces
+pub mod TopRanks
+pub mod Built

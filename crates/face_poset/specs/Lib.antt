@@ -1,0 +1,6 @@
+pub mod Faces
+pub mod Builds
+pub mod ListSteps
+pub mod RowSteps
+pub mod TableSteps
+pub mod Laws
