@@ -56,8 +56,8 @@ fn visit_run<V: Visitor>(walk: &RegionWalk, visitor: &mut V) -> bool
 
 /// Lets the visitor take the lattice points of the dilate of the hull of vertices that aren't flat, each once, in lexicographic order, until it
 /// answers `false`. The answer is whether all were taken. `facets` are all facets of the vertices, in any order. At least one vertex of 1 to 6
-/// coordinates, within the size limit; the dilate is at most 7, and the visitor takes points of that dimension. Without memory it is `NoMemory`,
-/// and no point was taken. Source: math/0204356, section 2.
+/// coordinates, within the size limit; the dilate is at most 7, and the visitor takes points of that dimension, before and after. Without memory
+/// it is `NoMemory`, and no point was taken. Source: math/0204356, section 2.
 pub fn for_each_dilate<V: Visitor>(
     alloc: Global,
     vertices: &[Point],
@@ -70,6 +70,7 @@ pub fn for_each_dilate<V: Visitor>(
     requires dilate { dilate ≤ MOST_DILATE }
     requires dimension { V.dimension visitor.old ≡ dimension_of vertices.now }
     ensures visits { IfOk result (λ all. VisitsDilate V.visits (dimension_of vertices.now) vertices.now dilate visitor.old all visitor.new) }
+    ensures dimension { V.dimension visitor.new ≡ V.dimension visitor.old }
     ensures untouched { IfErr result (λ _. visitor.new ≡ visitor.old) }
 {
     let region = dilate_region(alloc, vertices, facets, dilate)?;

@@ -54,6 +54,9 @@ returns-then-not-visit_run-clause-visits g c =
           all.lattice i.visited stops all.whole;
     }
 
+pub returns-then-not-visit_run-clause-dimension : goal.returns-then-not-visit_run-clause-dimension
+returns-then-not-visit_run-clause-dimension g c = c.visit_run.ensures.dimension ∙ c.loop-walk.invariant.dimension
+
 pub advance-requires : goal.advance-requires
 advance-requires g c = c.loop-walk.invariant.scanned.at
 
@@ -71,6 +74,9 @@ returns-then-not-advance-clause-visits g c =
           (first_point c.advance.new.self) none_left;
       taken = visited_append g.V.Visitor.visits c.args.visitor.now c.loop-walk.visitor c.visit_run.new.visitor i.found (run_points w) i.visited took;
     }
+
+pub returns-then-not-advance-clause-dimension : goal.returns-then-not-advance-clause-dimension
+returns-then-not-advance-clause-dimension g c = c.visit_run.ensures.dimension ∙ c.loop-walk.invariant.dimension
 
 pub loop-walk-smaller : goal.loop-walk-smaller
 loop-walk-smaller g c =
