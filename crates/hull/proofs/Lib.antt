@@ -13,6 +13,7 @@ mod CandidatePoints
 pub mod Growing
 mod WholeHulls
 mod LastPoints
+mod OuterPoints
 mod SimplexFacets
 mod SimplexExchange
 mod SimplexSizes

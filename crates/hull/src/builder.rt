@@ -35,7 +35,7 @@ impl Model for HullBuilder {
 }
 
 /// The same points again.
-fn copied_points(alloc: Global, points: &[Point]) -> Result<Vec<Point>, NoMemory>
+pub(crate) fn copied_points(alloc: Global, points: &[Point]) -> Result<Vec<Point>, NoMemory>
     ensures { IfOk result (λ copies. copies.items ≡ points.now) }
 {
     let mut copies = Vec::new(alloc);

@@ -10,10 +10,13 @@ ghost use Rattle.lattice_core.specs.Dimensions.{dimension_of};
 ghost use Rattle.lattice_core.specs.PointLists.{ArePoints, AreSizedPoints, AreSolidPoints};
 ghost use Rattle.lattice_core.specs.Stops.{Stops};
 ghost use Rattle.lattice_core.specs.ValueWidths.{IsWithin};
+ghost use Rattle.hull_growth.specs.Grown.{HasFacets};
 ghost use Rattle.hull.specs.steps.Growing.{IsWholeHull};
+ghost use Rattle.hull.specs.steps.Simplex.{IsSimplex};
 ghost use Rattle.hull.specs.Faults.{IsSizeRefusal, IsStartRefusal, IsFacetsRefusal};
 
 use crate::flat::flat_function;
+use crate::outer::outer_points;
 use crate::simplex::first_simplex;
 use hull_growth::{Growth, first_beyond};
 use lattice_core::{
@@ -22,19 +25,21 @@ use lattice_core::{
 };
 use std::alloc::Global;
 
-/// The hull of points within the size limit that aren't flat: some of the points, its corners, and all facets, each once, ordered by normal and
-/// then by constant. It grows from a first simplex: for the first facet beyond which there are points by the farthest of these. A facet beyond
-/// which there is none is done.
-pub(crate) fn whole_hull(
+/// The hull of points within the size limit, grown from a simplex of some of them: for the first facet beyond which there are points by the
+/// farthest of these. A facet beyond which there is none is done.
+fn grown_hull(
     alloc: Global,
+    corners: Vec<Point>,
+    functions: Vec<Functional>,
     points: &[Point],
 ) -> Result<(Vec<Point>, Vec<Functional>), NoMemory>
-    requires points { AreSolidPoints points.now }
+    requires points { AreSizedPoints points.now }
+    requires simplex { IsSimplex points.now corners.items }
+    requires facets { HasFacets (dimension_of corners.items) corners.items functions.items }
     ensures { IfOk result (λ hull. IsWholeHull points.now hull.0.items hull.1.items) }
 {
     let n = points[0].dim();
     let width = width_of(n, size_of(n, points));
-    let (corners, functions) = first_simplex(alloc, points)?;
     let mut growth = Growth::new(alloc, corners, functions)?;
     let mut done = 0;
     while let Some(beyond) = first_beyond(growth.facets(), points, done, width) {
@@ -44,6 +49,20 @@ pub(crate) fn whole_hull(
     let (corners, mut facets) = growth.into_parts();
     ascending_functions(&mut facets);
     Ok((corners, facets))
+}
+
+/// The hull of points within the size limit that aren't flat: some of the points, its corners, and all facets, each once, ordered by normal and
+/// then by constant. Points in the first simplex aren't looked at again.
+pub(crate) fn whole_hull(
+    alloc: Global,
+    points: &[Point],
+) -> Result<(Vec<Point>, Vec<Functional>), NoMemory>
+    requires points { AreSolidPoints points.now }
+    ensures { IfOk result (λ hull. IsWholeHull points.now hull.0.items hull.1.items) }
+{
+    let (corners, functions) = first_simplex(alloc, points)?;
+    let outer = outer_points(alloc, &corners, &functions, points)?;
+    grown_hull(alloc, corners, functions, &outer)
 }
 
 /// Refuses points that are too large.

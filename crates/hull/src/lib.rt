@@ -12,6 +12,7 @@ mod flat;
 mod functions;
 mod kernel;
 mod member;
+mod outer;
 mod planes;
 mod polytope;
 mod reduction;

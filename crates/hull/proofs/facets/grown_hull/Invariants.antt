@@ -1,6 +1,6 @@
 use Rattle.std.proofs.Common.{length}
 use Rattle.hull.specs.steps.Growing.{IsGrowing, others_than}
-use Rattle.hull.proofs.facets.whole_hull.Given as goal
+use Rattle.hull.proofs.facets.grown_hull.Given as goal
 
 abbrev pub invariant-loop-beyond : goal.invariant-loop-beyond
 invariant-loop-beyond l = IsGrowing l.points l.growth.corners l.growth.facets l.done
