@@ -1,13 +1,18 @@
 -- What the counts of facets, vertices and lattice points say of points.
-use Rattle.std.specs.Prelude.{◌↔◌, ℤ}
-use Rattle.std.proofs.Common.{◌≡◌, ℕ, ◌<◌, ◌≤◌, List, length, arith}
+use Rattle.std.specs.Prelude.{◌↔◌, ℤ, IsTrue, false}
+use Rattle.std.proofs.Common.{◌≡◌, ℕ, ◌<◌, ◌≤◌, List, length, arith, rules, sym, subst, ◌∙◌}
 use Rattle.lattice_theory.specs.Affine.{Affine}
 use Rattle.lattice_theory.specs.Hull.{AreVertices}
-use Rattle.lattice_theory.specs.Facet.{IsFlat, AreFacets, AreFacetsInAnyOrder}
+use Rattle.lattice_theory.specs.Facet.{IsFlat, AreFacetsInAnyOrder}
 use Rattle.lattice_theory.specs.Points.{IsLatticePoint, AreLatticePoints, IsDilatePoint}
 use Rattle.lattice_core.specs.Dimensions.{dimension_of}
 use Rattle.lattice_core.specs.Limits.{IsSized}
 use Rattle.lattice_core.specs.PointLists.{AreSolidPoints}
+use Rattle.lattice_core.specs.Stops.{Stops}
+use Rattle.lattice_core.specs.declared.faults.Fault.{Fault}
+use Rattle.lattice_core.specs.declared.faults.Fault.TheVariants as faults
+use Rattle.lattice_core.specs.declared.faults.Refusal.TheVariants.{Flat, Limit}
+use Rattle.lattice_core.specs.declared.faults.LimitName.{LimitName}
 use Rattle.lattice_core.proofs.Dimension.{dimension_is}
 use Rattle.facet_theory.specs.Solid.{AreSolid}
 use Rattle.facet_theory.proofs.LeastVertex.{facets_of_vertices_lem}
@@ -19,9 +24,11 @@ use Rattle.item_points.specs.Points.{HasPoints, AreItemPoints}
 use Rattle.item_points.proofs.WeightPoints.{weight_points_are_few}
 use Rattle.item_points.proofs.WeightLattice.{weight_points_are_all}
 use Rattle.point_scan.specs.Dilates.{AreDilatePoints, CountsDilatePoints}
+use Rattle.point_scan.specs.Faults.{IsScanRefusal}
 use Rattle.hull.specs.Faults.{HaveFewFacets}
-use Rattle.palp_engine.specs.Reports.{body_line, HaveFewVertices, HaveManyPoints, IsBodyLine}
-use Rattle.palp_engine.specs.RunSteps.{CountsLatticePoints, AreAllAndFew, IsWeightLine}
+use Rattle.palp_engine.specs.Reports.{HaveFewVertices, HaveManyPoints, IsRefused, many_points}
+use Rattle.palp_engine.specs.RunSteps.{CountsLatticePoints, AreAllAndFew, ArePassed, IsLattice, IsWeightLine}
+use Rattle.palp_engine.specs.declared.polytopes.Lattice.{Lattice}
 
 -- an item's points that aren't flat
 pub item_solid : (points : List (List ℤ)) → AreItemPoints points → (IsFlat (dimension_of points) points → ⊥)
@@ -90,20 +97,51 @@ line_points_all (ListedWeights systems) points i w h = record {
 }
 line_points_all (ListedPoints lines columns entries) points i w h = absurd w
 
--- the facets and vertices of points that passed the steps before the lattice points
-pub record ArePassed (n : ℕ) (points : List (List ℤ)) (facets : List Affine) (vertices : List (List ℤ)) : Type 0 where
-  pub solid : IsFlat n points → ⊥
-  pub are_facets : AreFacets n points facets
-  pub few_facets : length facets ≤ 128
-  pub are_vertices : AreVertices n points vertices
-  pub few_vertices : length vertices ≤ 128
+-- the lattice points of the vertices are those of the points
+lattice_moved : (n : ℕ) (points vertices lattice : List (List ℤ)) → AreSolid n points → AreVertices n points vertices
+    → AreLatticePoints n vertices lattice → AreLatticePoints n points lattice
+lattice_moved n points vertices lattice solid are ls = record {
+  ascends = ls.ascends;
+  members = λ x.
+      let same = lattice_points_of_vertices_lem n points vertices solid are.members x in
+      let listed = ls.members x in
+      (λ c. same.1 (listed.0 c), λ h. listed.1 (same.0 h));
+}
 
 module _ (n : ℕ) (points : List (List ℤ)) (facets : List Affine) (vertices : List (List ℤ)) (p : ArePassed n points facets vertices) where
   abbrev pub few_faces : HaveFewFacets n points
-  few_faces = record { solid = p.solid; facets = facets; are_facets = p.are_facets; few = p.few_facets }
+  few_faces = record { solid = p.solid.solid; facets = facets; are_facets = p.are_facets; few = p.few_facets }
 
   abbrev pub passed : HaveFewVertices n points
   passed = record { faces = few_faces; vertices = vertices; are_vertices = p.are_vertices; few = p.few_vertices }
+
+  -- what a scan of the vertices asks
+  pub scanned_vertices : AreSolidPoints vertices
+  scanned_vertices = solid_vertices n points vertices p.solid p.are_vertices p.sized
+
+  pub scanned_facets : AreFacetsInAnyOrder (dimension_of vertices) vertices facets
+  scanned_facets = vertices_facets n points vertices p.solid p.are_vertices facets p.are_facets.members
+
+  pub all_counted : (limit counted : ℕ) → CountsDilatePoints (dimension_of vertices) vertices 1 limit counted
+      → CountsLatticePoints n points limit counted
+  all_counted = counts_lattice n points vertices p.solid p.are_vertices
+
+  pub all_scanned : (lattice : List (List ℤ)) → AreLatticePoints (dimension_of vertices) vertices lattice → AreLatticePoints n points lattice
+  all_scanned lattice ls = lattice_moved n points vertices lattice p.solid p.are_vertices
+      (rw (first n points vertices p.solid p.are_vertices) at ls)
+
+  -- a scan finds more lattice points than an item may have
+  pub many_scanned : (fault : Fault) → Stops (IsScanRefusal (dimension_of vertices) vertices) fault → Stops (IsRefused n points) fault
+  many_scanned (faults.Refused (Flat f)) h = absurd h
+  many_scanned (faults.Refused (Limit name told)) h = subst (λ (x : LimitName). IsRefused n points (Limit x told)) (sym h.0)
+      (many_points (record {
+        polytope = passed;
+        lattice = h.2.lattice;
+        are_lattice_points = all_scanned h.2.lattice h.2.are_lattice_points;
+        many = h.2.more;
+        told_is = h.1;
+      }))
+  many_scanned faults.NoMemory h = h
 
   module _ (counted : ℕ) (counts : CountsLatticePoints n points 16384 counted) where
     -- more lattice points than an item may have
@@ -118,16 +156,18 @@ module _ (n : ℕ) (points : List (List ℤ)) (facets : List Affine) (vertices :
           told_is = omega arith;
         }
 
-    -- the line of points with few lattice points
-    pub few_counted : (line : List ℕ) → counted ≤ 16384 → line ≡ body_line counted (length vertices) (length facets)
-        → IsBodyLine n points line
-    few_counted line few written =
+    -- few lattice points, which aren't listed
+    pub few_counted : (lattice : Lattice) → counted ≤ 16384 → lattice.count ≡ counted → IsLattice n points false lattice
+    few_counted lattice few is =
         let e = counts.counted_is in
         let all : length counts.lattice ≡ counted = omega arith in
         record {
-          polytope = passed;
-          lattice = counts.lattice;
+          list = counts.lattice;
           are_lattice_points = counts.are_lattice_points;
           few = omega arith;
-          written = rw all written;
+          count_is = is ∙ sym all;
+          listed_is = λ t. absurd (not_true t);
         }
+      where
+        not_true : IsTrue false → ⊥
+        not_true t = search rules

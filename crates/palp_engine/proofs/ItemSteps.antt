@@ -1,5 +1,5 @@
 -- Giving the one piece of an item.
-use Rattle.std.proofs.Common.{ℕ, ◌≤◌, List, [], ◌∷◌, Err, sym, subst, refl}
+use Rattle.std.proofs.Common.{ℕ, ◌≤◌, List, [], ◌∷◌, Err, ◌≡◌, sym, subst}
 use Rattle.lattice_core.specs.Stops.{Stops}
 use Rattle.lattice_core.specs.declared.faults.Refusal.{Refusal}
 use Rattle.lattice_core.specs.declared.faults.Fault.{Fault}
@@ -9,26 +9,29 @@ use Rattle.report_theory.specs.Report.{Whole, Ends, Step}
 use Rattle.report_theory.specs.Giving.{GivesItem, GivesFront}
 use Rattle.report_theory.proofs.Givings.{item_nothing, item_piece, item_closed, item_front, item_part}
 use Rattle.palp_words.specs.declared.job.Job.{Job}
+use Rattle.palp_words.specs.declared.job.Job.TheVariants.{Poly}
+use Rattle.palp_words.specs.declared.job.PolyFlags.{PolyFlags}
 use Rattle.palp_input.specs.Grammar.{Listed}
 use Rattle.palp_engine.specs.Items.{IsPiece, IsItemRefused}
 use Rattle.palp_engine.specs.Entries.{Entry, TextItem}
-use Rattle.palp_engine.specs.Commands.{IsBuilt, PlainSays, line, whole, refused, Says}
+use Rattle.palp_engine.specs.Commands.{IsBuilt, BlocksSay, printed, whole, refused, Says}
 use Rattle.palp_engine.specs.Sessions.{EntryMeans}
 use Rattle.palp_engine.specs.RunSteps.{IsItemStop}
 use Rattle.palp_engine.specs.declared.session.ItemFault.{ItemFault}
 
--- the job that is built says what `poly -n` says
-built_says : (job : Job) (item : Listed) (k : ℕ) (step : Step Refusal) → IsBuilt job → PlainSays item k step
-    → Says job (TextItem item) k step
-built_says job item k step built a = subst (λ (j : Job). Says j (TextItem item) k step) (sym built) (refl, a)
+-- a job that is built says what its letters say
+built_says : (job : Job) (flags : PolyFlags) (item : Listed) (k : ℕ) (step : Step Refusal) → job ≡ Poly flags → IsBuilt job
+    → BlocksSay flags item k step → Says job (TextItem item) k step
+built_says job flags item k step is built a =
+    subst (λ (j : Job). Says j (TextItem item) k step) (sym is) (subst IsBuilt is built, a)
 
-module _ (job : Job) (built : IsBuilt job) (item : Listed) (out : SinkState) where
+module _ (job : Job) (flags : PolyFlags) (is : job ≡ Poly flags) (built : IsBuilt job) (item : Listed) (out : SinkState) where
   abbrev entry : Entry
   entry = TextItem item
 
   pub refused_item : (cause : Refusal) → IsItemRefused item cause → GivesItem (Says job) entry (Ends cause) out out
   refused_item cause a = item_closed (Says job) out out entry 0 (item_nothing (Says job) out entry) (Ends cause)
-      (built_says job item 0 _ built (refused a))
+      (built_says job flags item 0 _ is built (refused a))
 
   pub no_piece : GivesFront (Says job) (entry ∷ []) out out
   no_piece = item_front (Says job) out out entry 0 (item_nothing (Says job) out entry)
@@ -40,13 +43,13 @@ module _ (job : Job) (built : IsBuilt job) (item : Listed) (out : SinkState) whe
       subst (λ (t : ItemFault). EntryMeans (Err t) job entry out out) (sym e) (refused_item cause s)
   stopped_item faults.NoMemory told s e = subst (λ (t : ItemFault). EntryMeans (Err t) job entry out out) (sym e) no_piece
 
-  module _ (piece : List ℕ) (is_piece : IsPiece item piece) (last : SinkState) (later : out.faults ≤ last.faults) where
+  module _ (piece : List ℕ) (is_piece : IsPiece flags item piece) (last : SinkState) (later : out.faults ≤ last.faults) where
     pub whole_item : Gains out last piece → GivesItem (Says job) entry Whole out last
     whole_item g = item_closed (Says job) out last entry 1
-        (item_piece (Says job) out out entry 0 (item_nothing (Says job) out entry) piece last (built_says job item 0 _ built (line is_piece))
+        (item_piece (Says job) out out entry 0 (item_nothing (Says job) out entry) piece last (built_says job flags item 0 _ is built (printed is_piece))
         g later)
-        Whole (built_says job item 1 _ built whole)
+        Whole (built_says job flags item 1 _ is built whole)
 
     pub part_of_item : GainsFront out last piece → GivesFront (Says job) (entry ∷ []) out last
     part_of_item g = item_part (Says job) out out entry 0 (item_nothing (Says job) out entry) piece last
-        (built_says job item 0 _ built (line is_piece)) g later
+        (built_says job flags item 0 _ is built (printed is_piece)) g later

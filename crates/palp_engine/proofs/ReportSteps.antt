@@ -10,6 +10,7 @@ use Rattle.report_theory.specs.Report.{Whole, Stop, stop_at, IsListReport, IsLis
 use Rattle.report_theory.specs.Giving.{GivesReport, GivesFront}
 use Rattle.report_theory.proofs.Givings.{ReportedSoFar, gives_nothing, reported_nothing, reported_item, reported_end, reported_part, reported_front, reported_all}
 use Rattle.palp_words.specs.declared.job.Job.{Job}
+use Rattle.palp_words.specs.declared.job.Job.TheVariants.{Poly, Nef, Cws, Sweep}
 use Rattle.palp_input.specs.Grammar.{Listed, listed, TextEnd, End, FaultEnd, TooLongEnd, TextRead, read_text, no_more, most_bytes}
 use Rattle.palp_input.specs.Reading.{ReaderState, NextMeans}
 use Rattle.palp_input.specs.Answers.{reading_of}
@@ -19,7 +20,7 @@ use Rattle.palp_input.specs.declared.item.Item.{Item}
 use Rattle.palp_input.specs.Items.{IsItem}
 use Rattle.palp_input.proofs.Readings.{calls_read, calls_read_taken}
 use Rattle.palp_input.proofs.ItemForms.{items_are_items}
-use Rattle.palp_engine.specs.Entries.{Entry, TextItem, item_entry, AreEntries}
+use Rattle.palp_engine.specs.Entries.{Entry, TextItem, item_entry, AreTextEntries, AreEntries}
 use Rattle.palp_engine.specs.Commands.{IsBuilt, AreBuilt, ReadsText, Says}
 use Rattle.palp_engine.specs.Texts.{outcome_with, HaveReport, of_entries, no_front, front_of_entries}
 use Rattle.palp_engine.specs.Sessions.{EntryMeans}
@@ -56,6 +57,20 @@ pub next_is_item : (item : Item) (before now : ReaderState) (source source_now :
     → NextMeans (Ok (Some item)) before now source source_now → IsItem (listed item)
 next_is_item item before now source source_now m = items_are_items (before.held ++ m.bytes) (listed item) m.answer.end m.answer.is_first
 
+-- a job that is built reports on the items of the text
+built_entries : (job : Job) (text : List ℕ) (entries : List Entry) (ending : TextEnd) → IsBuilt job → AreTextEntries text entries ending
+    → AreEntries job text entries ending
+built_entries (Poly flags) text entries ending built h = h
+built_entries (Nef words) text entries ending built h = h
+built_entries (Cws words) text entries ending built h = absurd built
+built_entries (Sweep words) text entries ending built h = absurd built
+
+built_reads : (job : Job) → IsBuilt job → ReadsText job
+built_reads (Poly flags) built = tt
+built_reads (Nef words) built = tt
+built_reads (Cws words) built = built
+built_reads (Sweep words) built = built
+
 -- What is said of a run of which these bytes passed, by the reading of its text.
 module _ (job : Job) (is_built : IsBuilt job) (source last : SourceState) (out out_now : SinkState) (bytes : List ℕ)
     (passed : HavePassed source last bytes) (items : List Listed) (ending : TextEnd)
@@ -66,7 +81,7 @@ module _ (job : Job) (is_built : IsBuilt job) (source last : SourceState) (out o
 
   module _ (words : List (List ℕ)) (built : AreBuilt words) (same : built.job ≡ job) where
     are_entries : AreEntries built.job (text_of source.left bytes) (map TextItem items) ending
-    are_entries = subst (λ (j : Job). AreEntries j (text_of source.left bytes) (map TextItem items) ending) (sym built.built)
+    are_entries = built_entries built.job (text_of source.left bytes) (map TextItem items) ending built.built
         (record { entries_are = sym (ap (map TextItem) items_are); ending_is = sym ending_is })
 
     pub reported : (stop : Option (Stop Refusal)) (outcome : Outcome) → GivesReport (Says job) (map TextItem items) stop out out_now
@@ -164,7 +179,7 @@ module _ (job : Job) (is_built : IsBuilt job) (source middle last : SourceState)
         report = report.report;
         is_ended = record {
           built = built;
-          reads = subst ReadsText (sym built.built) tt;
+          reads = built_reads built.job built.built;
           items = items;
           are_ended = ended_items source middle before items so_far.read m.bytes m.answer.unended m.answer.no_item;
           is_report = subst (λ (j : Job). IsListReport (Says j) 1 0 (map TextItem items) report.report None) (sym same) report.is_report;

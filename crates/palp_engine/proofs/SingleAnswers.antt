@@ -1,4 +1,4 @@
--- Points have one body line or one refusal.
+-- Points have one list of each kind, or one refusal.
 use Rattle.std.specs.Prelude.{ℤ}
 use Rattle.std.specs.List.{Contains}
 use Rattle.std.proofs.Common.{◌≡◌, ℕ, ◌<◌, List, [], ◌∷◌, length, refl, sym, ◌∙◌, ap, arith}
@@ -11,19 +11,16 @@ use Rattle.lattice_theory.proofs.FlatUnique.{flat_function_unique}
 use Rattle.lattice_core.specs.declared.faults.Refusal.TheVariants.{Flat, Limit}
 use Rattle.lattice_core.specs.declared.faults.LimitName.TheVariants.{Facets, Vertices, Points}
 use Rattle.hull.specs.Faults.{HaveFewFacets, HasManyFacets, HasManyVertices}
-use Rattle.palp_engine.specs.Reports.{body_line, HaveFewVertices, flat, many_facets, many_vertices, many_points}
-use Rattle.palp_engine.specs.Laws.{OneLine, OneRefusal, LineOrRefusal}
+use Rattle.palp_engine.specs.Reports.{HaveFewVertices, flat, many_facets, many_vertices, many_points}
+use Rattle.palp_engine.specs.Laws.{OnePolytope, OneRefusal, PolytopeOrRefusal}
 
 -- lattice points, vertices and facets are listed in one way
-pub one_line : OneLine
-one_line n points line other l m =
-    let lattice = lists_unique LexLess lex_asymmetric _ _ _ l.are_lattice_points m.are_lattice_points in
-    let vertices = lists_unique LexLess lex_asymmetric _ _ _ l.polytope.are_vertices m.polytope.are_vertices in
-    let facets = lists_unique FunctionLess function_asymmetric _ _ _ l.polytope.faces.are_facets m.polytope.faces.are_facets in
-    l.written ∙ (same_numbers _ _ _ _ _ _ (ap length lattice) (ap length vertices) (ap length facets) ∙ sym m.written)
-  where
-    same_numbers : (a b c a' b' c' : ℕ) → a ≡ a' → b ≡ b' → c ≡ c' → body_line a b c ≡ body_line a' b' c'
-    same_numbers a b c a' b' c' e f g = λ i. body_line (e i) (f i) (g i)
+pub one_polytope : OnePolytope
+one_polytope n points few other = (
+  lists_unique LexLess lex_asymmetric _ _ _ few.are_lattice_points other.are_lattice_points,
+  lists_unique LexLess lex_asymmetric _ _ _ few.polytope.are_vertices other.polytope.are_vertices,
+  lists_unique FunctionLess function_asymmetric _ _ _ few.polytope.faces.are_facets other.polytope.faces.are_facets,
+)
 
 -- points with a flat function are flat
 flat_from_function : (n : ℕ) (points : List (List ℤ)) (f : Affine) → IsFlatFunction n points f → IsFlat n points
@@ -49,7 +46,7 @@ many_or_few_vertices n told points m f =
     omega (arith, m.count, m.many, f.few, same)
 
 -- the first of some points
-first_point : (points : List (List ℤ)) → 0 < length points → (p : List ℤ) × Contains points p
+pub first_point : (points : List (List ℤ)) → 0 < length points → (p : List ℤ) × Contains points p
 first_point [] some = absurd (omega arith)
 first_point (p ∷ points) some = (p, (0, omega arith, refl))
 
@@ -84,10 +81,10 @@ one_refusal n points _ _ some (many_points a) (many_facets {told = other} y b) =
 one_refusal n points _ _ some (many_points a) (many_vertices {told = other} y b) = absurd (many_or_few_vertices n other points b a.polytope)
 one_refusal n points _ _ some (many_points a) (many_points b) = ap (Limit Points) (a.told_is ∙ sym b.told_is)
 
-pub line_or_refusal : LineOrRefusal
-line_or_refusal n points line _ l (flat {f = f} r) = flat_or_solid n points f r l.polytope.faces.solid
-line_or_refusal n points line _ l (many_facets {told = told} x r) = many_or_few_facets n told points r l.polytope.faces
-line_or_refusal n points line _ l (many_vertices {told = told} x r) = many_or_few_vertices n told points r l.polytope
-line_or_refusal n points line _ l (many_points r) =
+pub polytope_or_refusal : PolytopeOrRefusal
+polytope_or_refusal n points _ l (flat {f = f} r) = flat_or_solid n points f r l.polytope.faces.solid
+polytope_or_refusal n points _ l (many_facets {told = told} x r) = many_or_few_facets n told points r l.polytope.faces
+polytope_or_refusal n points _ l (many_vertices {told = told} x r) = many_or_few_vertices n told points r l.polytope
+polytope_or_refusal n points _ l (many_points r) =
     let lattice = ap length (lists_unique LexLess lex_asymmetric _ _ _ l.are_lattice_points r.are_lattice_points) in
     omega (arith, l.few, r.many, lattice)

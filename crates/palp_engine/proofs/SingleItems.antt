@@ -1,22 +1,28 @@
 -- An item has one piece or one refusal.
-use Rattle.std.proofs.Common.{◌≡◌, ℕ, List, ◌++◌, ℤ, sym, ◌∙◌, ap, subst, inl, inr}
+use Rattle.std.proofs.Common.{◌≡◌, List, ℤ, sym, ◌∙◌, subst, inl, inr}
+use Rattle.lattice_theory.specs.Affine.{Affine}
 use Rattle.lattice_core.specs.Dimensions.{dimension_of}
 use Rattle.lattice_core.specs.declared.faults.Refusal.{Refusal}
+use Rattle.palp_words.specs.declared.job.PolyFlags.{PolyFlags}
 use Rattle.palp_input.specs.Grammar.{Listed}
 use Rattle.item_points.proofs.SingleItems.{one_list_of_points, one_points_refusal, points_or_refusal, points_are_item_points}
-use Rattle.palp_engine.specs.Reports.{IsBodyLine, IsRefused}
-use Rattle.palp_engine.specs.Items.{IsHullRefusal, echo}
+use Rattle.palp_engine.specs.Reports.{HaveFewPoints, IsRefused}
+use Rattle.palp_engine.specs.Items.{IsHullRefusal, blocks}
 use Rattle.palp_engine.specs.Laws.{OnePiece, OneItemRefusal, PieceOrRefusal}
-use Rattle.palp_engine.proofs.SingleAnswers.{one_line, one_refusal, line_or_refusal}
+use Rattle.palp_engine.proofs.SingleAnswers.{one_polytope, one_refusal, polytope_or_refusal}
 
 -- what is said of points holds of the same ones
 refused_same : (points others : List (List ℤ)) (cause : Refusal) → points ≡ others → IsRefused (dimension_of others) others cause
     → IsRefused (dimension_of points) points cause
 refused_same points others cause same h = subst (λ (xs : List (List ℤ)). IsRefused (dimension_of xs) xs cause) (sym same) h
 
-line_same : (points others : List (List ℤ)) (line : List ℕ) → points ≡ others → IsBodyLine (dimension_of others) others line
-    → IsBodyLine (dimension_of points) points line
-line_same points others line same h = subst (λ (xs : List (List ℤ)). IsBodyLine (dimension_of xs) xs line) (sym same) h
+-- the same points have the same lists
+one_polytope_of : (points others : List (List ℤ)) (few : HaveFewPoints (dimension_of points) points)
+    (other : HaveFewPoints (dimension_of others) others) → points ≡ others → (few.lattice ≡ other.lattice)
+    × (few.polytope.vertices ≡ other.polytope.vertices) × (few.polytope.faces.facets ≡ other.polytope.faces.facets)
+one_polytope_of points others few other same = subst (λ (xs : List (List ℤ)). (g : HaveFewPoints (dimension_of xs) xs)
+    → (few.lattice ≡ g.lattice) × (few.polytope.vertices ≡ g.polytope.vertices) × (few.polytope.faces.facets ≡ g.polytope.faces.facets))
+    same (λ g. one_polytope (dimension_of points) points few g) other
 
 one_hull_refusal : (item : Listed) (cause other : Refusal) → IsHullRefusal item cause → IsHullRefusal item other → cause ≡ other
 one_hull_refusal item cause other a b =
@@ -30,15 +36,18 @@ one_item_refusal item cause other (inl a) (inr b) = absurd (points_or_refusal it
 one_item_refusal item cause other (inr a) (inl b) = absurd (points_or_refusal item a.points other a.has_points b)
 one_item_refusal item cause other (inr a) (inr b) = one_hull_refusal item cause other a b
 
+same_blocks : (flags : PolyFlags) (item : Listed) (xs ys vs ws : List (List ℤ)) (fs gs : List Affine) → xs ≡ ys → vs ≡ ws → fs ≡ gs
+    → blocks flags item xs vs fs ≡ blocks flags item ys ws gs
+same_blocks flags item xs ys vs ws fs gs e f g = λ i. blocks flags item (e i) (f i) (g i)
+
 pub one_piece : OnePiece
-one_piece item piece other a b =
+one_piece flags item piece other a b =
     let same = one_list_of_points item a.points b.points a.has_points b.has_points in
-    let line = line_same a.points b.points b.line same b.is_line in
-    let one = one_line (dimension_of a.points) a.points a.line b.line a.is_line line in
-    a.written ∙ (ap (λ (line : List ℕ). echo item ++ line) one ∙ sym b.written)
+    let one = one_polytope_of a.points b.points a.few b.few same in
+    a.written ∙ (same_blocks flags item _ _ _ _ _ _ one.0 one.1 one.2 ∙ sym b.written)
 
 pub piece_or_refusal : PieceOrRefusal
-piece_or_refusal item piece cause a (inl b) = points_or_refusal item a.points cause a.has_points b
-piece_or_refusal item piece cause a (inr b) =
+piece_or_refusal flags item piece cause a (inl b) = points_or_refusal item a.points cause a.has_points b
+piece_or_refusal flags item piece cause a (inr b) =
     let same = one_list_of_points item a.points b.points a.has_points b.has_points in
-    line_or_refusal (dimension_of a.points) a.points a.line cause a.is_line (refused_same a.points b.points cause same b.refused)
+    polytope_or_refusal (dimension_of a.points) a.points cause a.few (refused_same a.points b.points cause same b.refused)

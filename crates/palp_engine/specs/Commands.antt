@@ -1,5 +1,5 @@
 -- The jobs that are built, and what they say of an item. This project's own.
-use Rattle.std.specs.Prelude.{◌≡◌, ℕ, List, true, false, Ok}
+use Rattle.std.specs.Prelude.{◌≡◌, ℕ, Bool, List, not, ◌&&◌, ◌||◌, IsTrue, Ok}
 use Rattle.lattice_core.specs.declared.faults.Refusal.{Refusal}
 use Rattle.report_theory.specs.Report.{Whole, Ends, Step, Piece, Close}
 use Rattle.palp_words.specs.Words.{words_of}
@@ -10,24 +10,17 @@ use Rattle.palp_input.specs.Grammar.{Listed}
 use Rattle.palp_engine.specs.Items.{IsItemRefused, IsPiece}
 use Rattle.palp_engine.specs.Entries.{Entry, TextItem, ListSystem, ListEnd}
 
--- `poly` with the general line in its form without a dual, and nothing else
-abbrev pub plain_flags : PolyFlags
-plain_flags = record {
-  general = true;
-  points = false;
-  vertices = false;
-  equations = false;
-  matrix = false;
-  dual_points = false;
-  incidence = false;
-  reflexive_only = false;
-  dual_input = false;
-  plain = true;
-}
+-- the letters that are built: the general line in its form without a dual, the points, the vertices, the facets and the pairing
+abbrev pub are_built : PolyFlags → Bool
+are_built flags = not flags.dual_points && (not flags.incidence && (not flags.reflexive_only && (not flags.dual_input
+    && (flags.plain || not flags.general))))
 
--- the job that is built
+-- the job is built: `poly` with such letters
 abbrev pub IsBuilt : Job → Type 0
-IsBuilt job = job ≡ Poly plain_flags
+IsBuilt (Poly flags) = IsTrue (are_built flags)
+IsBuilt (Nef words) = ⊥
+IsBuilt (Cws words) = ⊥
+IsBuilt (Sweep words) = ⊥
 
 -- the job reads a text, and reports of its items
 abbrev pub ReadsText : Job → Type 0
@@ -48,15 +41,15 @@ pub record AreUnbuilt (words : List (List ℕ)) : Type 0 where
   pub gives : words_of words ≡ Ok job
   pub other : IsBuilt job → ⊥
 
--- `poly -n` says of an item its one piece and then no more, or its refusal
-pub data PlainSays (item : Listed) : ℕ → Step Refusal → Type 0 where
-  line : {bytes : List ℕ} → IsPiece item bytes → PlainSays item 0 (Piece bytes)
-  whole : PlainSays item 1 (Close Whole)
-  refused : {cause : Refusal} → IsItemRefused item cause → PlainSays item 0 (Close (Ends cause))
+-- `poly` says of an item its one piece and then no more, or its refusal
+pub data BlocksSay (flags : PolyFlags) (item : Listed) : ℕ → Step Refusal → Type 0 where
+  printed : {bytes : List ℕ} → IsPiece flags item bytes → BlocksSay flags item 0 (Piece bytes)
+  whole : BlocksSay flags item 1 (Close Whole)
+  refused : {cause : Refusal} → IsItemRefused item cause → BlocksSay flags item 0 (Close (Ends cause))
 
 -- What `poly` says of an entry, which is an item of a text.
 abbrev pub PolySays : PolyFlags → Entry → ℕ → Step Refusal → Type 0
-PolySays flags (TextItem item) k step = (flags ≡ plain_flags) × PlainSays item k step
+PolySays flags (TextItem item) k step = IsTrue (are_built flags) × BlocksSay flags item k step
 PolySays flags (ListSystem system) k step = ⊥
 PolySays flags (ListEnd systems) k step = ⊥
 

@@ -1,13 +1,17 @@
--- The piece of an item in the report of `poly -n`, or why the item is refused. This project's own.
-use Rattle.std.specs.Prelude.{◌≡◌, ◌⊎◌, ℕ, List, [], ◌++◌, ℤ, codes}
-use Rattle.std.specs.Fmt.{decimal}
-use Rattle.std.specs.List.{flat_map}
+-- The piece of an item in the report of `poly`, or why the item is refused. This project's own.
+use Rattle.std.specs.Prelude.{◌≡◌, ◌⊎◌, ℕ, Bool, true, false, List, [], ◌++◌, length, if◌then◌else◌, ℤ, pos}
+use Rattle.std.specs.List.{list_all}
+use Rattle.std.specs.Ordering.{int_eq}
+use Rattle.lattice_theory.specs.Affine.{Affine}
 use Rattle.lattice_core.specs.Dimensions.{dimension_of}
 use Rattle.lattice_core.specs.declared.faults.Refusal.{Refusal}
-use Rattle.palp_input.specs.Systems.{numbers_in}
+use Rattle.palp_words.specs.declared.job.PolyFlags.{PolyFlags}
 use Rattle.palp_input.specs.Grammar.{Listed, ListedWeights, ListedPoints}
 use Rattle.item_points.specs.Points.{HasPoints, IsPointsRefusal}
-use Rattle.palp_engine.specs.Reports.{IsBodyLine, IsRefused}
+use Rattle.palp_print.specs.Lists.{echo, body_line}
+use Rattle.palp_print.specs.Blocks.{columns, dual_rows, equations, pairing}
+use Rattle.palp_print.specs.declared.titles.Title.TheVariants.{Vertices, Points}
+use Rattle.palp_engine.specs.Reports.{IsRefused, HaveFewPoints}
 
 -- why an item with points is refused
 pub record IsHullRefusal (item : Listed) (cause : Refusal) : Type 0 where
@@ -19,19 +23,34 @@ pub record IsHullRefusal (item : Listed) (cause : Refusal) : Type 0 where
 abbrev pub IsItemRefused : Listed → Refusal → Type 0
 IsItemRefused item cause = IsPointsRefusal item cause ⊎ IsHullRefusal item cause
 
--- numbers, each with a space behind it
-abbrev pub numbers_text : List ℕ → List ℕ
-numbers_text numbers = flat_map (λ (k : ℕ). decimal k ++ codes " ") numbers
+-- what stands in front of an item's general line: the numbers of a weight line
+abbrev pub item_echo : Listed → List ℕ
+item_echo (ListedWeights systems) = echo systems
+item_echo (ListedPoints lines columns entries) = []
 
--- what stands in front of the body line: the numbers of a weight line
-abbrev pub echo : Listed → List ℕ
-echo (ListedWeights systems) = numbers_text (numbers_in systems)
-echo (ListedPoints lines columns entries) = []
+-- the constants of all facets are 1: so the polytope is reflexive (alg-geom/9310003)
+abbrev pub have_ones : List Affine → Bool
+have_ones facets = list_all (λ (f : Affine). int_eq f.constant (pos 1)) facets
 
--- the item isn't refused, and this is its piece of the report
-pub record IsPiece (item : Listed) (piece : List ℕ) : Type 0 where
+-- the facets: as the vertices of the dual where the polytope is reflexive, and otherwise as equations
+abbrev pub facet_block : List Affine → List ℕ
+facet_block facets = if have_ones facets then dual_rows facets else equations facets
+
+-- what is printed where it is asked
+abbrev pub asked : Bool → List ℕ → List ℕ
+asked true text = text
+asked false text = []
+
+-- the blocks that the letters ask of an item with these lattice points, vertices and facets
+abbrev pub blocks : PolyFlags → Listed → List (List ℤ) → List (List ℤ) → List Affine → List ℕ
+blocks flags item lattice vertices facets =
+    asked flags.general (item_echo item ++ body_line (length lattice) (length vertices) (length facets))
+    ++ (asked flags.points (columns Points lattice) ++ (asked flags.vertices (columns Vertices vertices)
+    ++ (asked flags.equations (facet_block facets) ++ asked flags.matrix (pairing facets vertices))))
+
+-- the item isn't refused, and this is its piece of the report: the blocks that the letters ask
+pub record IsPiece (flags : PolyFlags) (item : Listed) (piece : List ℕ) : Type 0 where
   pub points : List (List ℤ)
   pub has_points : HasPoints item points
-  pub line : List ℕ
-  pub is_line : IsBodyLine (dimension_of points) points line
-  pub written : piece ≡ echo item ++ line
+  pub few : HaveFewPoints (dimension_of points) points
+  pub written : piece ≡ blocks flags item few.lattice few.polytope.vertices few.polytope.faces.facets

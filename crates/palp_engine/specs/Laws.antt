@@ -5,8 +5,9 @@ use Rattle.lattice_core.specs.declared.faults.Refusal.{Refusal}
 use Rattle.palp_io.specs.Sink.{IsPrefix}
 use Rattle.report_theory.specs.Report.{Closing, ArePieces}
 use Rattle.palp_words.specs.declared.job.Job.{Job}
+use Rattle.palp_words.specs.declared.job.PolyFlags.{PolyFlags}
 use Rattle.palp_input.specs.Grammar.{Listed, TextEnd}
-use Rattle.palp_engine.specs.Reports.{IsBodyLine, IsRefused}
+use Rattle.palp_engine.specs.Reports.{HaveFewPoints, IsRefused}
 use Rattle.palp_engine.specs.Items.{IsItemRefused, IsPiece}
 use Rattle.palp_engine.specs.Entries.{Entry, AreEntries}
 use Rattle.palp_engine.specs.Commands.{Says}
@@ -14,9 +15,10 @@ use Rattle.palp_engine.specs.Texts.{HaveReport, IsReport, IsFront}
 use Rattle.palp_engine.specs.Ended.{IsEndedReport}
 use Rattle.palp_engine.specs.declared.outcome.Outcome.{Outcome}
 
--- points have no two body lines
-abbrev pub OneLine : Type 0
-OneLine = (n : ℕ) (points : List (List ℤ)) (line other : List ℕ) → IsBodyLine n points line → IsBodyLine n points other → line ≡ other
+-- points that aren't refused have one list of lattice points, of vertices and of facets
+abbrev pub OnePolytope : Type 0
+OnePolytope = (n : ℕ) (points : List (List ℤ)) (few other : HaveFewPoints n points) → (few.lattice ≡ other.lattice)
+    × (few.polytope.vertices ≡ other.polytope.vertices) × (few.polytope.faces.facets ≡ other.polytope.faces.facets)
 
 -- points, if there is one, are refused for no two causes
 abbrev pub OneRefusal : Type 0
@@ -24,13 +26,13 @@ OneRefusal = (n : ℕ) (points : List (List ℤ)) (cause other : Refusal) → 0 
     → IsRefused n points other
     → cause ≡ other
 
--- points that have a body line aren't refused
-abbrev pub LineOrRefusal : Type 0
-LineOrRefusal = (n : ℕ) (points : List (List ℤ)) (line : List ℕ) (cause : Refusal) → IsBodyLine n points line → IsRefused n points cause → ⊥
+-- points that have such lists aren't refused
+abbrev pub PolytopeOrRefusal : Type 0
+PolytopeOrRefusal = (n : ℕ) (points : List (List ℤ)) (cause : Refusal) → HaveFewPoints n points → IsRefused n points cause → ⊥
 
--- an item has no two pieces
+-- letters ask for no two pieces of an item
 abbrev pub OnePiece : Type 0
-OnePiece = (item : Listed) (piece other : List ℕ) → IsPiece item piece → IsPiece item other → piece ≡ other
+OnePiece = (flags : PolyFlags) (item : Listed) (piece other : List ℕ) → IsPiece flags item piece → IsPiece flags item other → piece ≡ other
 
 -- an item is refused for no two causes
 abbrev pub OneItemRefusal : Type 0
@@ -38,7 +40,8 @@ OneItemRefusal = (item : Listed) (cause other : Refusal) → IsItemRefused item 
 
 -- an item that has a piece isn't refused
 abbrev pub PieceOrRefusal : Type 0
-PieceOrRefusal = (item : Listed) (piece : List ℕ) (cause : Refusal) → IsPiece item piece → IsItemRefused item cause → ⊥
+PieceOrRefusal = (flags : PolyFlags) (item : Listed) (piece : List ℕ) (cause : Refusal) → IsPiece flags item piece
+    → IsItemRefused item cause → ⊥
 
 -- a job reports on one list of entries of a text, which ends in one way
 abbrev pub OneListOfEntries : Type 0

@@ -1,84 +1,25 @@
 -- The note of each outcome: one line. This project's own.
-use Rattle.std.specs.Prelude.{◌≡◌, ◌⊎◌, ℕ, List, ◌++◌, codes, Option, Some, None}
-use Rattle.std.specs.Fmt.{decimal, signed_decimal}
-use Rattle.std.specs.List.{flat_map}
-use Rattle.lattice_theory.specs.Affine.{Affine}
-use Rattle.lattice_core.specs.declared.faults.Refusal.{Refusal}
-use Rattle.lattice_core.specs.declared.faults.Refusal.TheVariants.{Flat, Limit}
-use Rattle.lattice_core.specs.declared.faults.LimitName.{LimitName}
-use Rattle.lattice_core.specs.declared.faults.LimitName.TheVariants.{Systems, Weights, Degree, DegreeProduct, Frame, Dim, Input, Monomials, Size, Facets, Vertices, Points, DualSize, DualPoints}
+use Rattle.std.specs.Prelude.{◌≡◌, ◌⊎◌, Option, Some, None}
 use Rattle.palp_io.specs.Sink.{SinkState, Gains, IsGiveFault}
-use Rattle.palp_words.specs.declared.fault.WordKind.{WordKind}
-use Rattle.palp_words.specs.declared.fault.WordKind.TheVariants as words
-use Rattle.palp_input.specs.declared.fault.TextKind.{TextKind}
-use Rattle.palp_input.specs.declared.fault.TextKind.TheVariants as texts
+use Rattle.palp_print.specs.Notes.{note_line}
+use Rattle.palp_print.specs.declared.notes.Note.{Note}
+use Rattle.palp_print.specs.declared.notes.Note.TheVariants as notes
 use Rattle.palp_engine.specs.declared.outcome.Outcome.{Outcome}
 use Rattle.palp_engine.specs.declared.outcome.Outcome.TheVariants.{Done, BadWords, BadText, Refused, TextLimit, NotBuilt, ReadFault, WriteFault, NoMemory}
 
--- the name of a limit
-abbrev pub limit_name : LimitName → List ℕ
-limit_name Systems = codes "Systems"
-limit_name Weights = codes "Weights"
-limit_name Degree = codes "Degree"
-limit_name DegreeProduct = codes "DegreeProduct"
-limit_name Frame = codes "Frame"
-limit_name Dim = codes "Dim"
-limit_name Input = codes "Input"
-limit_name Monomials = codes "Monomials"
-limit_name Size = codes "Size"
-limit_name Facets = codes "Facets"
-limit_name Vertices = codes "Vertices"
-limit_name Points = codes "Points"
-limit_name DualSize = codes "DualSize"
-limit_name DualPoints = codes "DualPoints"
+-- the note of an outcome; Done has none
+abbrev pub note_of : Outcome → Option Note
+note_of Done = None
+note_of (BadWords fault) = Some (notes.Words fault)
+note_of (BadText fault) = Some (notes.Text fault)
+note_of (Refused item cause) = Some (notes.Refused item cause)
+note_of TextLimit = Some notes.TextLimit
+note_of NotBuilt = Some notes.NotBuilt
+note_of ReadFault = Some notes.ReadFault
+note_of WriteFault = Some notes.WriteFault
+note_of NoMemory = Some notes.NoMemory
 
--- the normal's entries, each with a space behind it, and then the constant
-abbrev pub function_text : Affine → List ℕ
-function_text f = flat_map (λ a. signed_decimal a ++ codes " ") f.normal ++ signed_decimal f.constant
-
--- what the note says of a refusal
-abbrev pub refusal_text : Refusal → List ℕ
-refusal_text (Flat f) = codes "flat: " ++ function_text f
-refusal_text (Limit name told) = codes "limit " ++ (limit_name name ++ (codes ": " ++ decimal told))
-
--- the name of a fault of a word
-abbrev pub word_kind_name : WordKind → List ℕ
-word_kind_name words.Missing = codes "Missing"
-word_kind_name words.Command = codes "Command"
-word_kind_name words.Flag = codes "Flag"
-word_kind_name words.Number = codes "Number"
-word_kind_name words.Range = codes "Range"
-word_kind_name words.Extra = codes "Extra"
-word_kind_name words.Conflict = codes "Conflict"
-
--- the name of a fault of a text
-abbrev pub text_kind_name : TextKind → List ℕ
-text_kind_name texts.BadNumber = codes "BadNumber"
-text_kind_name texts.NumberRange = codes "NumberRange"
-text_kind_name texts.MatrixShort = codes "MatrixShort"
-text_kind_name texts.WeightSum = codes "WeightSum"
-text_kind_name texts.Lengths = codes "Lengths"
-text_kind_name texts.ZeroColumn = codes "ZeroColumn"
-text_kind_name texts.NoWeights = codes "NoWeights"
-text_kind_name texts.Quotient = codes "Quotient"
-text_kind_name texts.BadByte = codes "BadByte"
-
--- the note line of an outcome; Done has none
-abbrev pub note_line : Outcome → Option (List ℕ)
-note_line Done = None
-note_line (Refused item cause) = Some (codes "palp: item " ++ (decimal item ++ (codes ": " ++ (refusal_text cause ++ codes "\n"))))
-note_line (BadWords fault) = Some
-    (codes "palp: word " ++ (decimal fault.index ++ (codes ": " ++ (word_kind_name fault.kind ++ codes "\n"))))
-note_line (BadText fault) =
-    Some (codes "palp: line " ++ (decimal fault.line
-    ++ (codes " column " ++ (decimal fault.column ++ (codes ": " ++ (text_kind_name fault.kind ++ codes "\n"))))))
-note_line TextLimit = Some (codes "palp: text limit\n")
-note_line NotBuilt = Some (codes "palp: not built\n")
-note_line ReadFault = Some (codes "palp: read fault\n")
-note_line WriteFault = Some (codes "palp: write fault\n")
-note_line NoMemory = Some (codes "palp: no memory\n")
-
--- the bytes were given to the sink of notes, or a front of them where its count of faults rose
-abbrev pub IsNoted : Option (List ℕ) → SinkState → SinkState → Type 0
+-- the note's line was given to the sink of notes, or a front of it where its count of faults rose
+abbrev pub IsNoted : Option Note → SinkState → SinkState → Type 0
 IsNoted None before now = now ≡ before
-IsNoted (Some line) before now = Gains before now line ⊎ IsGiveFault line before now
+IsNoted (Some note) before now = Gains before now (note_line note) ⊎ IsGiveFault (note_line note) before now

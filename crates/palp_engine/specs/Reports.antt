@@ -1,7 +1,5 @@
--- What `poly -n` says of points. The line's form and the limits are this project's own; PALP prints such a line for polytopes that
--- aren't reflexive (arXiv:1205.4147, section 3).
-use Rattle.std.specs.Prelude.{◌≡◌, ℕ, ◌+◌, ◌<◌, ◌≤◌, List, ◌++◌, length, ℤ, codes}
-use Rattle.std.specs.Fmt.{decimal}
+-- Points that are refused, and points that aren't. The limits are this project's own.
+use Rattle.std.specs.Prelude.{◌≡◌, ℕ, ◌+◌, ◌<◌, ◌≤◌, List, length, ℤ}
 use Rattle.lattice_theory.specs.Affine.{Affine}
 use Rattle.lattice_theory.specs.Hull.{AreVertices}
 use Rattle.lattice_theory.specs.Facet.{IsFlat, IsFlatFunction, AreFacets}
@@ -12,11 +10,6 @@ use Rattle.lattice_core.specs.declared.faults.Refusal.TheVariants.{Flat, Limit}
 use Rattle.lattice_core.specs.declared.faults.LimitName.TheVariants.{Facets, Vertices, Points}
 use Rattle.hull.specs.Faults.{HaveFewFacets, HasManyFacets, HasManyVertices}
 
--- the line that tells the numbers of lattice points, vertices and facets
-abbrev pub body_line : ℕ → ℕ → ℕ → List ℕ
-body_line points vertices facets =
-    codes "M:" ++ (decimal points ++ (codes " " ++ (decimal vertices ++ (codes " F:" ++ (decimal facets ++ codes "\n")))))
-
 -- the points aren't flat, and have few facets and few vertices
 pub record HaveFewVertices (n : ℕ) (points : List (List ℤ)) : Type 0 where
   pub faces : HaveFewFacets n points
@@ -24,13 +17,12 @@ pub record HaveFewVertices (n : ℕ) (points : List (List ℤ)) : Type 0 where
   pub are_vertices : AreVertices n points vertices
   pub few : length vertices ≤ MOST_VERTICES
 
--- the line says how many lattice points, vertices and facets the points' hull has, and the points aren't refused
-pub record IsBodyLine (n : ℕ) (points : List (List ℤ)) (line : List ℕ) : Type 0 where
+-- and their hull has few lattice points: so the points aren't refused
+pub record HaveFewPoints (n : ℕ) (points : List (List ℤ)) : Type 0 where
   pub polytope : HaveFewVertices n points
   pub lattice : List (List ℤ)
   pub are_lattice_points : AreLatticePoints n points lattice
   pub few : length lattice ≤ MOST_POINTS
-  pub written : line ≡ body_line (length lattice) (length polytope.vertices) (length polytope.faces.facets)
 
 -- the hull has too many lattice points, and the number told is one more than the limit
 pub record HaveManyPoints (n : ℕ) (points : List (List ℤ)) (told : ℕ) : Type 0 where

@@ -1,17 +1,31 @@
 -- What the steps of a run answer. This project's own.
-use Rattle.std.specs.Prelude.{◌≡◌, ℕ, ◌+◌, ◌≤◌, min, List, length, ℤ, Err}
+use Rattle.std.specs.Prelude.{◌≡◌, ℕ, ◌+◌, ◌≤◌, min, Bool, IsTrue, List, ◌++◌, length, ℤ, Err}
+use Rattle.lattice_theory.specs.Affine.{Affine}
+use Rattle.lattice_theory.specs.Hull.{AreVertices}
+use Rattle.lattice_theory.specs.Facet.{AreFacets}
 use Rattle.lattice_theory.specs.Points.{AreLatticePoints}
 use Rattle.lattice_core.specs.Dimensions.{dimension_of}
-use Rattle.lattice_core.specs.declared.limits.TheConstants.{MOST_POINTS}
+use Rattle.lattice_core.specs.Limits.{IsSized}
+use Rattle.lattice_core.specs.PointLists.{ArePoints}
+use Rattle.lattice_core.specs.declared.limits.TheConstants.{MOST_FACETS, MOST_VERTICES, MOST_POINTS}
 use Rattle.lattice_core.specs.declared.faults.Fault.{Fault}
 use Rattle.lattice_core.specs.declared.faults.Fault.TheVariants as stops
 use Rattle.palp_io.specs.Source.{SourceState}
 use Rattle.palp_io.specs.Sink.{SinkState}
 use Rattle.palp_words.specs.Words.{words_of}
 use Rattle.palp_words.specs.declared.job.Job.{Job}
+use Rattle.palp_words.specs.declared.job.PolyFlags.{PolyFlags}
 use Rattle.palp_input.specs.Grammar.{Listed, ListedWeights, ListedPoints}
 use Rattle.palp_input.specs.declared.fault.NextFault.{NextFault}
 use Rattle.palp_input.specs.declared.fault.NextFault.TheVariants.{Text, TooLong, Read, NoMemory as NoTextMemory}
+use Rattle.facet_theory.specs.Solid.{AreSolid}
+use Rattle.palp_print.specs.Lists.{body_line}
+use Rattle.palp_print.specs.Blocks.{columns, pairing, AreFunctions, ArePaired}
+use Rattle.palp_print.specs.declared.titles.Title.TheVariants.{Vertices as VertexColumns, Points as PointColumns}
+use Rattle.palp_engine.specs.Items.{item_echo, facet_block, asked}
+use Rattle.palp_engine.specs.Reports.{HaveFewPoints}
+use Rattle.palp_engine.specs.declared.polytopes.Polytope.{Polytope}
+use Rattle.palp_engine.specs.declared.polytopes.Lattice.{Lattice}
 use Rattle.palp_engine.specs.Commands.{AreBuilt, AreUnbuilt}
 use Rattle.palp_engine.specs.Runs.{HasTaken, AreUntouched, IsReported, IsReportedInPart, IsDone, HasReadFault, HasWriteFault}
 use Rattle.palp_engine.specs.declared.outcome.Outcome.{Outcome}
@@ -29,6 +43,48 @@ pub record CountsLatticePoints (n : ℕ) (points : List (List ℤ)) (limit count
 pub record AreAllAndFew (points : List (List ℤ)) : Type 0 where
   pub all : AreLatticePoints (dimension_of points) points points
   pub few : length points ≤ MOST_POINTS
+
+-- the facets and vertices of points that passed the steps before the lattice points
+pub record ArePassed (n : ℕ) (points : List (List ℤ)) (facets : List Affine) (vertices : List (List ℤ)) : Type 0 where
+  pub solid : AreSolid n points
+  pub sized : IsSized n points
+  pub are_facets : AreFacets n points facets
+  pub few_facets : length facets ≤ MOST_FACETS
+  pub are_vertices : AreVertices n points vertices
+  pub few_vertices : length vertices ≤ MOST_VERTICES
+
+-- the number of lattice points, of which there are few, and all of them where they are listed
+pub record IsLattice (n : ℕ) (points : List (List ℤ)) (listed : Bool) (lattice : Lattice) : Type 0 where
+  pub list : List (List ℤ)
+  pub are_lattice_points : AreLatticePoints n points list
+  pub few : length list ≤ MOST_POINTS
+  pub count_is : lattice.count ≡ length list
+  pub listed_is : IsTrue listed → lattice.points.items ≡ list
+
+-- what can be printed of a polytope: vertices and facets that can be paired, and lattice points, where they are listed
+pub record ArePrinted (listed : Bool) (polytope : Polytope) : Type 0 where
+  pub lattice : IsTrue listed → ArePoints polytope.lattice.items
+  pub vertices : ArePoints polytope.vertices.items
+  pub facets : AreFunctions polytope.facets.items
+  pub paired : ArePaired polytope.facets.items polytope.vertices.items
+
+-- the blocks that the letters ask of an item whose polytope was worked out
+abbrev pub blocks_of : PolyFlags → Listed → Polytope → List ℕ
+blocks_of flags item polytope =
+    asked flags.general (item_echo item ++ body_line polytope.count (length polytope.vertices.items) (length polytope.facets.items))
+    ++ (asked flags.points (columns PointColumns polytope.lattice.items)
+    ++ (asked flags.vertices (columns VertexColumns polytope.vertices.items)
+    ++ (asked flags.equations (facet_block polytope.facets.items)
+    ++ asked flags.matrix (pairing polytope.facets.items polytope.vertices.items))))
+
+-- what is kept of points that aren't refused: the number of their lattice points, all of them where they are listed, vertices and facets
+pub record IsPolytope (points : List (List ℤ)) (listed : Bool) (polytope : Polytope) : Type 0 where
+  pub few : HaveFewPoints (dimension_of points) points
+  pub count_is : polytope.count ≡ length few.lattice
+  pub lattice_is : IsTrue listed → polytope.lattice.items ≡ few.lattice
+  pub vertices_are : polytope.vertices.items ≡ few.polytope.vertices
+  pub facets_are : polytope.facets.items ≡ few.polytope.faces.facets
+  pub printed : ArePrinted listed polytope
 
 -- the item is a weight line
 abbrev pub IsWeightLine : Listed → Type 0

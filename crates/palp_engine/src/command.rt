@@ -2,39 +2,77 @@
 
 ghost use Rattle.std.specs.Prelude.{◌≡◌, ◌<◌, ◌≤◌, ◌^◌, ◌↔◌, IsTrue, map, length};
 ghost use Rattle.std.specs.String.{string_bytes};
-ghost use Rattle.palp_engine.specs.Commands.{IsBuilt};
-ghost use Rattle.palp_engine.specs.Notes.{note_line, IsNoted};
+ghost use Rattle.palp_engine.specs.Commands.{IsBuilt, are_built};
+ghost use Rattle.palp_engine.specs.Notes.{note_of as outcome_note, IsNoted};
 ghost use Rattle.palp_engine.specs.RunSteps.{IsAnswered, IsPerformed, IsStopped, outcome_unread};
 ghost use Rattle.palp_engine.specs.Runs.{HasTaken, TellsBadWords, TellsNotBuilt, IsDone, IsRefusal, IsReported, HasReadFault, HasWriteFault, IsReportedInPart, IsComplete};
 ghost use Rattle.palp_engine.specs.declared.outcome.Outcome.TheVariants.{Done, ReadFault, WriteFault, NoMemory};
 
 use crate::Outcome;
-use crate::lines::note_line as note_of;
 use crate::session::{ItemFault, Session, report_item};
+use lattice_core::Refusal;
 use palp_input::{NextFault, Reader};
 use palp_io::{Sink, Source};
+use palp_print::{Note, note_line};
 use palp_words::{Job, PolyFlags, read_words};
 use std::alloc::Global;
 
-/// The job that is built.
-pub(crate) const PLAIN: Job = Job::Poly(PolyFlags {
-    general: true,
-    points: false,
-    vertices: false,
-    equations: false,
-    matrix: false,
-    dual_points: false,
-    incidence: false,
-    reflexive_only: false,
-    dual_input: false,
-    plain: true,
-});
+/// Whether these letters of `poly` are built.
+fn letters_are_built(flags: &PolyFlags) -> bool
+    ensures { result ≡ are_built flags.now }
+{
+    if flags.dual_points {
+        return false;
+    }
+    if flags.incidence {
+        return false;
+    }
+    if flags.reflexive_only {
+        return false;
+    }
+    if flags.dual_input {
+        return false;
+    }
+    flags.plain || !flags.general
+}
 
-/// Whether the job is `poly` with `-n` alone.
+/// Whether the job is `poly` with letters that are built.
 fn is_built(job: &Job) -> bool
     ensures { IsTrue result ↔ IsBuilt job.now }
 {
-    *job == PLAIN
+    match job {
+        Job::Poly(flags) => letters_are_built(flags),
+        Job::Nef(_) => false,
+        Job::Cws(_) => false,
+        Job::Sweep(_) => false,
+    }
+}
+
+/// The same cause again. It takes no memory.
+fn same_cause(cause: &Refusal) -> Refusal
+    ensures { result ≡ cause.now }
+{
+    match cause {
+        Refusal::Flat(function) => Refusal::Flat(function.copied()),
+        Refusal::Limit(limit, told) => Refusal::Limit(*limit, *told),
+    }
+}
+
+/// The note of an outcome; none for `Done`.
+fn note_of(outcome: &Outcome) -> Option<Note>
+    ensures { result ≡ outcome_note outcome.now }
+{
+    match outcome {
+        Outcome::Done => None,
+        Outcome::BadWords(fault) => Some(Note::Words(*fault)),
+        Outcome::BadText(fault) => Some(Note::Text(*fault)),
+        Outcome::Refused { item, cause } => Some(Note::Refused(*item, same_cause(cause))),
+        Outcome::TextLimit => Some(Note::TextLimit),
+        Outcome::NotBuilt => Some(Note::NotBuilt),
+        Outcome::ReadFault => Some(Note::ReadFault),
+        Outcome::WriteFault => Some(Note::WriteFault),
+        Outcome::NoMemory => Some(Note::NoMemory),
+    }
 }
 
 /// The outcome where the reader gives no item and no end.
@@ -100,8 +138,9 @@ fn answer<S: Source, O: Sink>(alloc: Global, words: &[String], src: &mut S, out:
 
 /// Runs the command that the words say, which are those of the command line without the program's name; there are fewer than 2^31.
 ///
-/// `poly` with `-n`, and without another block, reads the items of the source's text (docs/formats.md) and reports them one after another,
-/// each before it reads on: for each one the line `M:points vertices F:facets`, behind the numbers of a weight line. `Done` comes where the whole
+/// `poly` reads the items of the source's text (docs/formats.md) and reports them one after another, each before it reads on: for each one the
+/// blocks that its letters ask. Built are `g` with `n`, the line `M:points vertices F:facets` behind the numbers of a weight line; `p`, the
+/// lattice points; `v`, the vertices; `e`, the facets; and `m`, the pairing of facets and vertices. `Done` comes where the whole
 /// report was given. `Refused` tells the first item that exceeds a limit (docs/limits.md) or is flat, `BadText` the first fault of the
 /// text, and `TextLimit` a text of more than 67,108,864 bytes; the items before are reported. Other commands are `NotBuilt`, and words that
 /// give none are `BadWords`; nothing is read then. `ReadFault` and `WriteFault` come only where the count of faults of the source, or of
@@ -148,7 +187,7 @@ pub fn run<S: Source, O: Sink, N: Sink>(
     ensures completeness { IsComplete (map string_bytes words.now) result (S.state src.old) (S.state src.new) (O.state out.old) (O.state out.new) }
 
     // Whatever `notes` answers: the outcome's note line was given to it, whole where its count of faults didn't rise, and nothing else.
-    ensures notes { IsNoted (note_line result) (N.state notes.old) (N.state notes.new) }
+    ensures notes { IsNoted (outcome_note result) (N.state notes.old) (N.state notes.new) }
 
     // No count of faults fell.
     ensures source_faults { (S.state src.old).faults ≤ (S.state src.new).faults }
@@ -156,8 +195,8 @@ pub fn run<S: Source, O: Sink, N: Sink>(
     ensures note_faults { (N.state notes.old).faults ≤ (N.state notes.new).faults }
 {
     let outcome = answer(alloc, words, src, out);
-    if let Some(line) = note_of(&outcome) {
-        let _answer = notes.give(line.as_slice());
+    if let Some(note) = note_of(&outcome) {
+        let _answer = notes.give(note_line(&note).as_slice());
     }
     outcome
 }

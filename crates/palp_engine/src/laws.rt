@@ -1,16 +1,17 @@
 //! What a text says is said once.
 
-ghost use Rattle.palp_engine.specs.Laws.{OneLine, OneRefusal, LineOrRefusal, OnePiece, OneItemRefusal, PieceOrRefusal, OneListOfEntries, OneList, OneReport, FrontsAreFronts, EmptyFront, OneEndedReport, EndedReportsAreFronts};
+ghost use Rattle.palp_engine.specs.Laws.{OnePolytope, OneRefusal, PolytopeOrRefusal, OnePiece, OneItemRefusal, PieceOrRefusal, OneListOfEntries, OneList, OneReport, FrontsAreFronts, EmptyFront, OneEndedReport, EndedReportsAreFronts};
 
-/// A law, and no work: points have at most one body line and, if there is a point, at most one refusal, and not both; so have items. A job
+/// A law, and no work: points have at most one list of lattice points, vertices and facets and, if there is a point, at most one refusal, and
+/// not both; so letters ask for at most one piece of an item, which has at most one refusal. A job
 /// reports on one list of entries of a text, and says of an entry one list of pieces, which ends in one way. So words and a text have at
 /// most one report, which ends with one outcome; and what is told as a front of their report is one, and nothing where the report is empty.
 /// What is to be reported where the source fails is one, too, and a front of the report of the bytes that passed. What `run` gives is fixed
 /// by the definitions.
 pub fn answers_are_single()
-    ensures line { OneLine }
+    ensures polytope { OnePolytope }
     ensures refusal { OneRefusal }
-    ensures apart { LineOrRefusal }
+    ensures apart { PolytopeOrRefusal }
     ensures piece { OnePiece }
     ensures item_refusal { OneItemRefusal }
     ensures item_apart { PieceOrRefusal }

@@ -1,17 +1,17 @@
-use Rattle.palp_engine.proofs.SingleAnswers.{one_line, one_refusal, line_or_refusal}
+use Rattle.palp_engine.proofs.SingleAnswers.{one_polytope, one_refusal, polytope_or_refusal}
 use Rattle.palp_engine.proofs.SingleItems.{one_piece, one_item_refusal, piece_or_refusal}
 use Rattle.palp_engine.proofs.SingleReports.{one_list_of_entries, one_list, one_report, fronts_are_fronts, empty_front}
 use Rattle.palp_engine.proofs.SingleEnded.{one_ended_report, ended_reports_are_fronts}
 use Rattle.palp_engine.proofs.laws.answers_are_single.Goals as goal
 
-pub returns-clause-line : goal.returns-clause-line
-returns-clause-line c = one_line
+pub returns-clause-polytope : goal.returns-clause-polytope
+returns-clause-polytope c = one_polytope
 
 pub returns-clause-refusal : goal.returns-clause-refusal
 returns-clause-refusal c = one_refusal
 
 pub returns-clause-apart : goal.returns-clause-apart
-returns-clause-apart c = line_or_refusal
+returns-clause-apart c = polytope_or_refusal
 
 pub returns-clause-piece : goal.returns-clause-piece
 returns-clause-piece c = one_piece

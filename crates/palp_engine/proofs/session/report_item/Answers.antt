@@ -6,18 +6,18 @@ use Rattle.palp_engine.proofs.session.report_item.Goals as goal
 pub returns-in_err-write_piece : goal.returns-in_err-write_piece
 returns-in_err-write_piece g c =
     let e = err_from_is_err_and c.from_residual.result c.from_residual.ensures.1 in
-    rw e.1 (stopped_item c.args.job.now c.requires.job (listed c.args.item.now) _ c.in_err-write_piece.field-0.0 e.0
+    rw e.1 (stopped_item c.args.job.now _ c.letters_of-flags.ensures c.requires.job (listed c.args.item.now) _ c.in_err-write_piece.field-0.0 e.0
     c.in_err-write_piece.ensures e.2)
 
 pub returns : goal.returns
 returns g c =
     elim c.match-give.branch [
-      | goal.in-All w ↦ rw w.result-is (whole_item c.args.job.now c.requires.job (listed c.args.item.now) _ c.write_piece.new.page.items
-          c.in_ok-write_piece.ensures _ c.give.ensures.later (rw c.deref.ensures.value at (rw w.in-All.is at c.give.ensures.means)))
+      | goal.in-All w ↦ rw w.result-is (whole_item c.args.job.now _ c.letters_of-flags.ensures c.requires.job (listed c.args.item.now) _ c.write_piece.new.page
+          c.in_ok-write_piece.ensures _ c.give.ensures.later (rw c.bytes.ensures at (rw w.in-All.is at c.give.ensures.means)))
       | goal.in-Failed w ↦ rw w.result-is (
         (w.in-Failed.ensures.means).rose,
-        part_of_item c.args.job.now c.requires.job (listed c.args.item.now) _
-            c.write_piece.new.page.items c.in_ok-write_piece.ensures _ c.give.ensures.later
-            (rw c.deref.ensures.value at (w.in-Failed.ensures.means)).part,
+        part_of_item c.args.job.now _ c.letters_of-flags.ensures c.requires.job (listed c.args.item.now) _
+            c.write_piece.new.page c.in_ok-write_piece.ensures _ c.give.ensures.later
+            (rw c.bytes.ensures at (w.in-Failed.ensures.means)).part,
       )
     ]

@@ -1,0 +1,107 @@
+//! The blocks of an item.
+
+ghost use Rattle.std.specs.Prelude.{◌≡◌, ◌++◌, IsTrue, length, OnOk};
+ghost use Rattle.lattice_core.specs.PointLists.{ArePoints};
+ghost use Rattle.palp_input.specs.Grammar.{listed};
+ghost use Rattle.palp_print.specs.Lists.{body_line};
+ghost use Rattle.palp_print.specs.Blocks.{AreFunctions, ArePaired, columns, pairing};
+ghost use Rattle.palp_print.specs.declared.titles.Title.TheVariants as Title;
+ghost use Rattle.palp_engine.specs.Items.{item_echo, have_ones, facet_block, asked};
+ghost use Rattle.palp_engine.specs.RunSteps.{ArePrinted, blocks_of};
+
+use crate::polytopes::Polytope;
+use lattice_core::{Functional, NoMemory, Point};
+use palp_input::Item;
+use palp_print::{Page, Title};
+use palp_words::PolyFlags;
+
+/// Appends what stands in front of an item's general line.
+fn put_echo(page: &mut Page, item: &Item) -> Result<(), NoMemory>
+    ensures { OnOk result (page.new ≡ page.old ++ item_echo (listed item.now)) }
+{
+    match item {
+        Item::Weights(systems) => page.echo(systems),
+        Item::Points(_) => Ok(()),
+    }
+}
+
+/// Appends the general line, where it is asked.
+fn put_general(page: &mut Page, on: bool, item: &Item, polytope: &Polytope) -> Result<(), NoMemory>
+    ensures { OnOk result (page.new ≡ page.old ++ asked on (item_echo (listed item.now)
+        ++ body_line polytope.now.count (length polytope.now.vertices.items) (length polytope.now.facets.items))) }
+{
+    if !on {
+        return Ok(());
+    }
+    put_echo(page, item)?;
+    page.body_line(
+        polytope.count,
+        polytope.vertices.len() as u64,
+        polytope.facets.len() as u64,
+    )
+}
+
+/// Appends points, where they are asked.
+fn put_columns(page: &mut Page, on: bool, title: Title, points: &[Point]) -> Result<(), NoMemory>
+    requires { IsTrue on → ArePoints points.now }
+    ensures { OnOk result (page.new ≡ page.old ++ asked on (columns title points.now)) }
+{
+    if !on {
+        return Ok(());
+    }
+    page.columns(title, points)
+}
+
+/// Whether the constants of all facets are 1.
+fn all_have_ones(facets: &[Functional]) -> bool
+    ensures { result ≡ have_ones facets.now }
+{
+    facets.iter().all(|f| f.constant() == 1)
+}
+
+/// Appends the facets, where they are asked.
+fn put_facets(page: &mut Page, on: bool, facets: &[Functional]) -> Result<(), NoMemory>
+    requires { AreFunctions facets.now }
+    ensures { OnOk result (page.new ≡ page.old ++ asked on (facet_block facets.now)) }
+{
+    if !on {
+        return Ok(());
+    }
+    if all_have_ones(facets) {
+        return page.dual_rows(facets);
+    }
+    page.equations(facets)
+}
+
+/// Appends the values of facets at vertices, where they are asked.
+fn put_pairing(
+    page: &mut Page,
+    on: bool,
+    facets: &[Functional],
+    vertices: &[Point],
+) -> Result<(), NoMemory>
+    requires { ArePaired facets.now vertices.now }
+    ensures { OnOk result (page.new ≡ page.old ++ asked on (pairing facets.now vertices.now)) }
+{
+    if !on {
+        return Ok(());
+    }
+    page.pairing(facets, vertices)
+}
+
+/// Appends the blocks that the letters ask.
+pub(crate) fn put_blocks(
+    page: &mut Page,
+    flags: &PolyFlags,
+    item: &Item,
+    polytope: &Polytope,
+) -> Result<(), NoMemory>
+    requires { ArePrinted flags.now.points polytope.now }
+    ensures { OnOk result (page.new ≡ page.old ++ blocks_of flags.now (listed item.now) polytope.now) }
+{
+    put_general(page, flags.general, item, polytope)?;
+    put_columns(page, flags.points, Title::Points, &polytope.lattice)?;
+    put_columns(page, flags.vertices, Title::Vertices, &polytope.vertices)?;
+    put_facets(page, flags.equations, &polytope.facets)?;
+    put_pairing(page, flags.matrix, &polytope.facets, &polytope.vertices)
+}
