@@ -2,9 +2,9 @@
 use Rattle.std.specs.Prelude.{◌≡◌, ℕ, ◌+◌, ◌<◌, ◌≤◌, List, length, ℤ}
 use Rattle.lattice_theory.specs.Affine.{Affine}
 use Rattle.lattice_theory.specs.Hull.{AreVertices}
-use Rattle.lattice_theory.specs.Facet.{IsFlat, IsFlatFunction, AreFacets}
+use Rattle.lattice_theory.specs.Facet.{IsFlat, IsFlatFunction}
 use Rattle.lattice_theory.specs.Points.{AreLatticePoints}
-use Rattle.lattice_core.specs.declared.limits.TheConstants.{MOST_FACETS, MOST_VERTICES, MOST_POINTS}
+use Rattle.lattice_core.specs.declared.limits.TheConstants.{MOST_VERTICES, MOST_POINTS}
 use Rattle.lattice_core.specs.declared.faults.Refusal.{Refusal}
 use Rattle.lattice_core.specs.declared.faults.Refusal.TheVariants.{Flat, Limit}
 use Rattle.lattice_core.specs.declared.faults.LimitName.TheVariants.{Facets, Vertices, Points}
