@@ -1,4 +1,4 @@
-//! Scans, counts and visits agree with a plain filter of a box on small polytopes.
+//! Scans and counts agree with a plain filter of a box on small polytopes.
 
 ghost use Rattle.std.specs.Prelude.{◌≤◌};
 ghost use Rattle.lattice_core.specs.PointLists.{ArePoints};
@@ -60,7 +60,7 @@ pub(crate) fn filtered(
     Ok(points)
 }
 
-/// Whether the scan gives those of the box, and the counts of two dilates are as many.
+/// Whether the scan gives those of the box, and the counts of the dilates are as many.
 fn agree(alloc: Global, vertices: &[Point]) -> Result<bool, Fault>
     requires vertices { ArePoints vertices.now }
 {

@@ -23,6 +23,10 @@ fn faulty(text: &'static str, note: &'static str) -> Case {
     }
 }
 
+/// The corners of a hexagon, and those of a square.
+const HEXAGON: [&str; 6] = ["-1 0 ", "0 -1 ", "1 -1 ", "1 0 ", "0 1 ", "-1 1 "];
+const SQUARE: [&str; 4] = ["1 1\n", "1 -1\n", "-1 1\n", "-1 -1\n"];
+
 /// Two hexagons and a square in planes of their own, whose hull has 6 times 6 times 4 facets.
 const MANY_FACETS: &str = "16 6\n\
     1 0 0 0 0 0\n\
@@ -164,6 +168,22 @@ fn weight_lines_are_refused_by_name(rt: HostRuntime) -> Result<(), Fail> {
 fn many_facets_are_refused(rt: HostRuntime) -> Result<(), Fail> {
     let case = refused(MANY_FACETS, "palp: item 1: limit Facets: 144\n");
     assert!(rt; is_answered(&rt, &case, 5000, NOTHING)?);
+    Ok(())
+}
+
+/// The product of two hexagons and a square, whose hull has 144 vertices and 16 facets.
+#[test]
+fn many_vertices_are_refused(rt: HostRuntime) -> Result<(), Fail> {
+    let mut text = Vec::from_slice(rt.alloc(), b"144 6\n")?;
+    for place in 0..144 {
+        text.extend_from_slice(HEXAGON[place / 24].as_bytes())?;
+        text.extend_from_slice(HEXAGON[place / 4 % 6].as_bytes())?;
+        text.extend_from_slice(SQUARE[place % 4].as_bytes())?;
+    }
+    let answer = answer_to(&rt, PLAIN, &text, 4096, NOTHING)?;
+    assert_eq!(rt; answer.status, 4);
+    assert!(rt; answer.report.is_empty());
+    assert!(rt; answer.note.as_slice() == b"palp: item 1: limit Vertices: 144\n".as_slice());
     Ok(())
 }
 

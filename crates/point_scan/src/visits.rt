@@ -55,7 +55,7 @@ fn visit_run<V: Visitor>(walk: &RegionWalk, visitor: &mut V) -> bool
 }
 
 /// Lets the visitor take the lattice points of the dilate of the hull of vertices that aren't flat, each once, in lexicographic order, until it
-/// answers `false`. The answer is whether all were taken. `facets` are all facets of the vertices, in any order. At least one vertex of 1 to 6
+/// answers `false`. The answer is whether it never did. `facets` are all facets of the vertices, in any order. At least one vertex of 1 to 6
 /// coordinates, within the size limit; the dilate is at most 7, and the visitor takes points of that dimension, before and after. Without memory
 /// it is `NoMemory`, and no point was taken. Source: math/0204356, section 2.
 pub fn for_each_dilate<V: Visitor>(
