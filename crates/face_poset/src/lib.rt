@@ -15,3 +15,6 @@ mod table;
 
 pub use laws::top_rank_bound;
 pub use table::{BuildFault, FaceTable};
+
+#[cfg(test)]
+mod tests;
