@@ -1,14 +1,20 @@
-//! Polytopes of points: their vertices, facets and lattice points in order, and whether they are reflexive. It stands on `hull` and `point_scan`
-//! for these lists, on the laws of `facet_theory` for the vertices' own, and on the definitions of `duality_theory`.
+//! Polytopes of points: their vertices, facets and lattice points in order, and whether they are reflexive; and reflexive polytopes with their
+//! duals. It stands on `hull` and `point_scan` for these lists, on the laws of `facet_theory` for the vertices' own, and on those of
+//! `duality_theory` for the duals', which need no second hull.
 //!
 //! Its central theorem: points have exactly one polytope, which is that of its vertices, or are refused by the first limit that they exceed
-//! (`Polytope::of`).
+//! (`Polytope::of`); and a polytope is reflexive with exactly one dual, or not, or is refused by a limit on the dual (`DualPair::of`).
 #![tactic(auto)]
 
 mod laws;
+mod pair;
 mod polytope;
 
-pub use laws::{polytope_of_vertices, polytopes_are_single};
+pub use laws::{
+    exchanged_pairs, no_limit_on_the_way_back, pairs_are_single, polytope_of_vertices,
+    polytopes_are_single,
+};
+pub use pair::{DualPair, Kind};
 pub use polytope::Polytope;
 
 #[cfg(test)]

@@ -20,10 +20,10 @@ use std::marker::Model;
 /// section 2.
 #[derive(Drop)]
 pub struct Polytope {
-    dim: usize,
-    vertices: Vec<Point>,
-    facets: Vec<Functional>,
-    points: Vec<Point>,
+    pub(crate) dim: usize,
+    pub(crate) vertices: Vec<Point>,
+    pub(crate) facets: Vec<Functional>,
+    pub(crate) points: Vec<Point>,
 }
 
 impl Model for Polytope {
