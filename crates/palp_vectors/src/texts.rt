@@ -23,8 +23,10 @@ fn faulty(text: &'static str, note: &'static str) -> Case {
     }
 }
 
-/// The corners of a hexagon, and those of a square.
+/// The corners of a hexagon, each with a space behind it.
 const HEXAGON: [&str; 6] = ["-1 0 ", "0 -1 ", "1 -1 ", "1 0 ", "0 1 ", "-1 1 "];
+
+/// Those of a square, each with its line end.
 const SQUARE: [&str; 4] = ["1 1\n", "1 -1\n", "-1 1\n", "-1 -1\n"];
 
 /// Two hexagons and a square in planes of their own, whose hull has 6 times 6 times 4 facets.
