@@ -13,6 +13,7 @@ if sys.version_info < (3, 8):
     sys.stderr.write("palp: the scripts need Python 3.8 or a later one, and this is %d.%d\n" % sys.version_info[:2])
     sys.exit(69)
 
+import operator
 import os
 import re
 import shlex
@@ -390,7 +391,9 @@ def text_of(items: Union[str, bytes, Iterable[Any]]) -> bytes:
         if isinstance(item, (str, bytes)):
             text += text_of(item).rstrip(b"\n") + b"\n"
             continue
-        rows = [list(row) if hasattr(row, "__iter__") else row for row in item]
+        if not hasattr(item, "__iter__"):
+            raise ValueError(f"items are a list of items, as [[5, 1, 1, 1, 1, 1]], and {item!r} is none")
+        rows = [list(row) if hasattr(row, "__iter__") and not isinstance(row, str) else row for row in item]
         if rows and all(isinstance(row, list) for row in rows):
             widths = {len(row) for row in rows}
             if len(widths) != 1 or len(rows) < widths.pop():
@@ -400,18 +403,30 @@ def text_of(items: Union[str, bytes, Iterable[Any]]) -> bytes:
             rows = [rows]
         else:
             raise ValueError("an item is a text, the numbers of a weight line (three or more), or a list of points")
-        text += "".join(" ".join(str(int(it)) for it in row) + "\n" for row in rows).encode()
+        text += "".join(" ".join(str(whole(it)) for it in row) + "\n" for row in rows).encode()
     return text
+
+
+def whole(number: Any) -> int:
+    """A whole number of any kind, as Python, Sage and numpy have them."""
+    try:
+        return operator.index(number)
+    except TypeError:
+        raise ValueError(f"the numbers of an item are whole numbers, and {number!r} is none") from None
 
 
 def run(words: str, items: Union[str, bytes, Iterable[Any]] = b"") -> List[Record]:
     """Runs a command, as "poly -n", over items, and gives one record for each of them, in order.
 
     A refused or faulty item has a record with its cause, and the ones behind it are reported all the same; one that `nef` refuses at a
-    partition keeps the partitions before it. An item of which the command prints nothing (`poly -r`) has a record that says
-    nothing. Of `cws` and `sweep`, which read no items, the records are those of the
-    report. Raises ProgramFault where the program ends for another cause: a wrong word, or a command that isn't built.
+    partition keeps the partitions before it. An item of which the command prints nothing (`poly -r`) has a record that says nothing.
+    Of `cws` and `sweep`, which read no items, the records are those of the report.
+
+    Raises ProgramFault where the program ends for another cause, as a wrong word or a command that isn't built, and ValueError where the
+    words aren't a text, or an item isn't of one of the forms that `text_of` takes.
     """
+    if not isinstance(words, str):
+        raise ValueError('the words are one text, as "poly -n"')
     given = shlex.split(words)
     if given[:1] in (["cws"], ["sweep"]):
         done = start(given, b"")
@@ -451,6 +466,8 @@ def stop(script: str, status: int, why: str) -> NoReturn:
 
 def input_of(script: str, name: Optional[str]) -> bytes:
     """The bytes of a file, or of standard input where none is named. Ends the script where it can't be read."""
+    if name is None and sys.stdin is None:
+        stop(script, 2, "standard input is closed")
     if name is None and sys.stdin.isatty():
         print(f"{script}: standard input is read from the terminal until Ctrl-D on an empty line", file=sys.stderr)
     try:
@@ -474,6 +491,8 @@ def reports_of(script: str, names: Sequence[str]) -> List[Record]:
 
 def end(script: str, main: Callable[[List[str]], int]) -> NoReturn:
     """Runs a script and ends with its status, which is 7 where what it writes can't be written. On a closed pipe it ends as a filter does."""
+    if sys.stdout is None:
+        stop(script, 7, "standard output is closed")
     try:
         try:
             status = main(sys.argv[1:])

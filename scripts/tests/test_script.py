@@ -42,7 +42,17 @@ class Words(unittest.TestCase):
             self.assertEqual((status, said), (0, ""))
             self.assertLessEqual(max(len(it) for it in wrote.splitlines()), 80)
         self.assertEqual(self.palp("explain", "nothing"), (2, "", "palp: no note and no status is called nothing\n"))
-        self.assertEqual(self.palp("explain")[0], 2)
+        for words in ((), ("",)):
+            self.assertEqual(self.palp("explain", *words)[0], 2)
+        for words in (("text limit",), ("write", "fault"), ("ReadFault",)):
+            self.assertEqual((self.palp("explain", *words)[0], self.palp("explain", *words)[2]), (0, ""))
+
+    def test_no_folder_is_made_of_an_option(self):
+        with tempfile.TemporaryDirectory() as room:
+            for words in ((), ("",), ("--prefix",), ("-n",), ("a", "b")):
+                status, wrote, said = run([str(TOP / "palp"), "install", *words], folder=room)
+                self.assertEqual((status, wrote, said), (2, "", "palp: install takes one folder, as in: palp install ~/.local\n"))
+            self.assertEqual(os.listdir(room), [])
 
     def test_names_with_examples_are_in_the_pages(self):
         headings = [it[3:].split(", ")[0] for it in (TOP / "docs" / "names.md").read_text(encoding="utf-8").splitlines() if it.startswith("## ")]

@@ -68,6 +68,11 @@ class Table(unittest.TestCase):
             os.close(writing)
             self.assertEqual((done.returncode, done.stderr.decode()), (-signal.SIGPIPE, ""))
 
+    def test_closed_streams(self):
+        for closing, status, line in (("<&-", 2, "table: standard input is closed\n"), (">&-", 7, "table: standard output is closed\n")):
+            found, _, said = run(["sh", "-c", f'"$0" "$1" {closing}', sys.executable, str(SCRIPTS / "table")])
+            self.assertEqual((found, said), (status, line))
+
     def test_help(self):
         for name in ("scan", "table", "hodge-plot", "build"):
             status, wrote, said = run([name, "--help"])
@@ -85,6 +90,27 @@ class Picture(unittest.TestCase):
                 status, _, said = run(["hodge-plot", "--to", str(picture)], REPORT, MPLCONFIGDIR=folder)
                 self.assertEqual((status, said.count("1 Calabi-Yau threefolds with 1 pairs")), (0, 1))
                 self.assertTrue(picture.read_bytes().startswith(begins))
+
+
+class Texts(unittest.TestCase):
+    def test_forms(self):
+        self.assertEqual(palp.text_of(["3 1 1 1\n", [3, 1, 1, 1], [(0, 0), [1, 0], (0, 1)]]), b"3 1 1 1\n3 1 1 1\n3 2\n0 0\n1 0\n0 1\n")
+
+    def test_what_is_no_item(self):
+        for items, word in [
+            ([5, 1, 1, 1, 1, 1], "5 is none"),
+            ([[3, 1, 1, 1.5]], "1.5 is none"),
+            ([[3, 1, 1.0, 1]], "1.0 is none"),
+            ([["3", "1", "1", "1"]], "'3' is none"),
+            ([[(0, 0), (1, 0), (0, "1")]], "'1' is none"),
+            ([[(0, 0), (1,)]], "equally many coordinates"),
+            ([[3, 1]], "three or more"),
+        ]:
+            with self.assertRaises(ValueError) as raised:
+                palp.text_of(items)
+            self.assertIn(word, str(raised.exception))
+        with self.assertRaises(ValueError):
+            palp.run(["poly", "-n"], [[3, 1, 1, 1]])
 
 
 @unittest.skipUnless(HAS_PROGRAM, "the program isn't built")
@@ -165,6 +191,10 @@ class Scan(unittest.TestCase):
         for words, status in [
             (["poly", "-x"], 2),
             (["cws", "-w2", "3", "6"], 2),
+            (["help"], 2),
+            (["explain", "Points"], 2),
+            (["install", "here"], 2),
+            (["--sshloginfile", "/nowhere", "poly", "-n"], 2),
             ([], 2),
             (["--block", "0", "poly", "-n"], 2),
             (["--slice", "4/3", "poly", "-n"], 2),
@@ -173,6 +203,24 @@ class Scan(unittest.TestCase):
         ]:
             found, wrote, said = self.scan(*words)
             self.assertEqual((found, wrote, said.count("\n")), (status, "", 1))
+
+    def test_one_item(self):
+        self.assertEqual(self.scan("poly", "-n", text="3 1 1 1\n")[2], "scan: 1 item: 1 reported, 0 refused, 0 faulty\n")
+
+    def test_a_failed_block(self):
+        # The program fails where it reads a system of degree 4, until it is mended.
+        broken = Path(self.room.name) / "broken"
+        test = f'if [ ! -e "{self.room.name}/mended" ] && echo "$text" | grep -q ^4; then exit 9; fi'
+        broken.write_text(f'#!/bin/sh\ntext=$(cat)\n{test}\nprintf "%s\\n" "$text" | "{PROGRAM}" "$@"\n')
+        broken.chmod(0o755)
+        words = ["scan", "--block", "1", "--folder", "f", "poly", "-n"]
+        text = "3 1 1 1\n4 1 1 1 1\n"
+        status, wrote, said = run(words, text, folder=self.room.name, PALP=str(broken), PARALLEL_HOME=self.room.name)
+        self.assertEqual((status, wrote), (75, ""))
+        self.assertEqual(said, "scan: 1 of 2 blocks failed; the same command tries them again (f): scan: item 2: palp: the program failed\n")
+        (Path(self.room.name) / "mended").touch()
+        status, wrote, said = run(words, text, folder=self.room.name, PALP=str(broken), PARALLEL_HOME=self.room.name)
+        self.assertEqual((status, wrote), (0, "3 1 1 1 M:10 3 F:3\n4 1 1 1 1 M:35 4 F:4\n"))
 
     def test_another_list_in_the_folder(self):
         folder = Path(self.room.name) / "f"
