@@ -14,4 +14,4 @@ pub mod interiors;
 pub mod numbers;
 pub mod tables;
 
-pub use examples::tetrahedron_numbers_are_an_example;
+pub use examples::{octahedron_numbers_are_an_example, tetrahedron_numbers_are_an_example};
