@@ -8,6 +8,7 @@
 
 mod laws;
 mod pair;
+mod partition;
 mod polytope;
 
 pub use laws::{
@@ -15,6 +16,7 @@ pub use laws::{
     polytopes_are_single,
 };
 pub use pair::{DualPair, Kind};
+pub use partition::Partition;
 pub use polytope::Polytope;
 
 #[cfg(test)]
