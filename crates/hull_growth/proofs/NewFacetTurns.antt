@@ -1,5 +1,5 @@
 -- The turns of the loops that list the new facets, and the facets with one more point.
-use Rattle.std.proofs.Common.{◌≡◌, ◌≢◌, ◌⊎◌, ◌↔◌, inl, inr, ⊎_elim, ℕ, suc, ◌+◌, ◌^◌, ◌<◌, ◌≤◌, List, [], ◌∷◌, ◌++◌, length, get_or, take, drop, ℤ}
+use Rattle.std.proofs.Common.{◌≡◌, ◌≢◌, ◌⊎◌, ◌↔◌, inl, inr, ⊎_elim, ℕ, suc, ◌+◌, ◌<◌, ◌≤◌, List, [], ◌∷◌, ◌++◌, length, get_or, take, drop, ℤ}
 use Rattle.std.proofs.Common.{pos, ◌≤ℤ◌, ◌<ℤ◌, refl, sym, ap, ◌∙◌, subst, Contains, append_assoc, append-nil, arith}
 use Rattle.std.specs.Prelude.{not, int_lt, true, false, Bool, cond}
 use Rattle.std.specs.List.{All, AllPairs}

@@ -12,7 +12,7 @@ use Rattle.hull_growth.specs.steps.Rows.{AddsIndex, IsCornerRow, AreCornerRows, 
 
 -- without corners there is no place
 pub row_none : (f : Affine) (row : ℕ) → ((i : ℕ) → HasIndex row i → ⊥) → IsCornerRow [] f row
-row_none f row none = record { corner = λ i h k. absurd (omega arith); behind = λ i h b. none i b }
+row_none f row none = record { corner = λ i h k. absurd (omega arith); behind = λ i h b. none i b; few = λ i b. absurd (none i b) }
 
 -- what becomes of a row with one more place, or none
 abbrev IsChanged : ℕ → ℕ → ℕ → Type 0
@@ -30,7 +30,7 @@ other_places place row new i (inr more) d = (
 pub row_more : (corners : List (List ℤ)) (p : List ℤ) (f : Affine) (place row new : ℕ) → place ≡ length corners → IsCornerRow corners f row
     → (value f p ≡ pos 0 → place < MOST_INDICES → AddsIndex row place new) → (value f p ≢ pos 0 → new ≡ row)
     → (MOST_INDICES ≤ place → new ≡ row) → IsCornerRow (corners ++ (p ∷ [])) f new
-row_more corners p f place row new stands h set same full = record { corner = corner; behind = behind }
+row_more corners p f place row new stands h set same full = record { corner = corner; behind = behind; few = few }
   where
     changed : IsChanged place row new
     changed = ⊎_elim
@@ -72,6 +72,15 @@ row_more corners p f place row new stands h set same full = record { corner = co
         let long = length_push corners p in
         h.behind i (omega arith) ((other_places place row new i changed (λ (s : i ≡ place). omega arith)).0 b)
 
+    few : (i : ℕ) → HasIndex new i → i < MOST_INDICES
+    few i b = ⊎_elim
+        (λ (l : i < MOST_INDICES). l)
+        (λ (l : MOST_INDICES ≤ i). h.few i (⊎_elim
+        (λ (t : place < MOST_INDICES). (other_places place row new i changed (λ (s : i ≡ place). omega arith)).0 b)
+        (λ (t : MOST_INDICES ≤ place). subst (λ (r : ℕ). HasIndex r i) (full t) b)
+        (cases_lt place MOST_INDICES)))
+        (cases_lt i MOST_INDICES)
+
 -- the next corner of a list
 pub row_turn : (corners : List (List ℤ)) (f : Affine) (i : ℕ) (p : List ℤ) (row new : ℕ) → i < length corners → p ≡ get_or corners i p
     → IsCornerRow (take i corners) f row → (value f p ≡ pos 0 → i < MOST_INDICES → AddsIndex row i new)
@@ -87,7 +96,11 @@ IsMeet x y both = (i : ℕ) → HasIndex both i ↔ (HasIndex x i × HasIndex y 
 -- the meet of two rows is the row of a function that vanishes where both functions do
 pub row_meet : (corners : List (List ℤ)) (f g h : Affine) (x y z : ℕ) → IsCornerRow corners f x → IsCornerRow corners g y → IsMeet x y z
     → ((c : List ℤ) → Contains corners c → (value h c ≡ pos 0) ↔ ((value f c ≡ pos 0) × (value g c ≡ pos 0))) → IsCornerRow corners h z
-row_meet corners f g h x y z r s meets both = record { corner = corner; behind = λ i l b. r.behind i l ((meets i).0 b).0 }
+row_meet corners f g h x y z r s meets both = record {
+  corner = corner;
+  behind = λ i l b. r.behind i l ((meets i).0 b).0;
+  few = λ i b. r.few i ((meets i).0 b).0;
+}
   where
     corner : (i : ℕ) → i < length corners → i < MOST_INDICES → HasIndex z i ↔ (value h (slice_index_or corners i []) ≡ pos 0)
     corner i l k =
@@ -96,10 +109,22 @@ row_meet corners f g h x y z r s meets both = record { corner = corner; behind =
           λ q. let v = at.0 q in (meets i).1 ((r.corner i l k).1 v.0, (s.corner i l k).1 v.1),
         )
 
--- with at most 128 corners a row has what two rows both have exactly where its function vanishes with both
+-- a row has what two rows both have where its function vanishes with both
+pub vanishing_common : (corners : List (List ℤ)) (f g h : Affine) (x y z : ℕ) → IsCornerRow corners f x → IsCornerRow corners g y
+    → IsCornerRow corners h z → VanishesWithBoth corners f g h → HasCommon x y z
+vanishing_common corners f g h x y z r s t v i a b = by (cases_lt i (length corners))
+  where
+    by : (i < length corners) ⊎ (length corners ≤ i) → HasIndex z i
+    by (inl l) =
+        let k = r.few i a in
+        (t.corner i l k).1 (v (slice_index_or corners i []) (i, l, get_or_default corners i (slice_index_or corners i []) [] l)
+        ((r.corner i l k).0 a) ((s.corner i l k).0 b))
+    by (inr l) = absurd (r.behind i l a)
+
+-- with at most 128 corners it has this only there
 pub meet_tells : (corners : List (List ℤ)) (f g h : Affine) (x y z : ℕ) → length corners ≤ MOST_INDICES → IsCornerRow corners f x
     → IsCornerRow corners g y → IsCornerRow corners h z → HasCommon x y z ↔ VanishesWithBoth corners f g h
-meet_tells corners f g h x y z few r s t = (there, back)
+meet_tells corners f g h x y z few r s t = (there, vanishing_common corners f g h x y z r s t)
   where
     there : HasCommon x y z → VanishesWithBoth corners f g h
     there all c (i, l, is) a b =
@@ -108,15 +133,18 @@ meet_tells corners f g h x y z few r s t = (there, back)
         ap (value h) (sym at) ∙ (t.corner i l k).0
         (all i ((r.corner i l k).1 (ap (value f) at ∙ a)) ((s.corner i l k).1 (ap (value g) at ∙ b)))
 
-    back : VanishesWithBoth corners f g h → HasCommon x y z
-    back v i a b = by (cases_lt i (length corners))
-      where
-        by : (i < length corners) ⊎ (length corners ≤ i) → HasIndex z i
-        by (inl l) =
-            let k : i < MOST_INDICES = omega arith in
-            (t.corner i l k).1 (v (slice_index_or corners i []) (i, l, get_or_default corners i (slice_index_or corners i []) [] l)
-            ((r.corner i l k).0 a) ((s.corner i l k).0 b))
-        by (inr l) = absurd (r.behind i l a)
+-- the rows at three places
+pub vanishing_rows : (corners : List (List ℤ)) (functions : List Affine) (rows : List ℕ) (i j k : ℕ) (f g h : Affine)
+    → AreCornerRows corners functions rows → i < length functions → j < length functions → k < length functions
+    → f ≡ slice_index_or functions i f → g ≡ slice_index_or functions j g → h ≡ slice_index_or functions k h → VanishesWithBoth corners f g h
+    → HasCommon (slice_index_or rows i 0) (slice_index_or rows j 0) (slice_index_or rows k 0)
+vanishing_rows corners functions rows i j k f g h are l m o a b c v =
+    vanishing_common corners f g h (slice_index_or rows i 0) (slice_index_or rows j 0) (slice_index_or rows k 0)
+    (row i f l a) (row j g m b) (row k h o c) v
+  where
+    row : (q : ℕ) (u : Affine) → q < length functions → u ≡ slice_index_or functions q u → IsCornerRow corners u (slice_index_or rows q 0)
+    row q u w e = are.each q u (slice_index_or rows q 0) w e
+        (let s = are.same in get_or_default rows q 0 (slice_index_or rows q 0) (omega arith))
 
 -- the meet is part of a third row exactly where this has what both have
 pub part_is_common : (rows : List ℕ) (i j k x y z both : ℕ) → i < length rows → j < length rows → k < length rows → x ≡ get_or rows i x

@@ -17,22 +17,41 @@ pub struct Beyond {
     pub point: usize,
 }
 
-/// The place of a point that lies farthest beyond the function, if one lies beyond it, by values in 64 bits.
-fn farthest_narrow(f: &Functional, points: &[Point]) -> Option<usize>
-    requires dimension { HaveDimension (length f.now.normal) points.now }
+/// The place of a point that lies farthest beyond the function, if one lies beyond it, by values in 64 bits. All have so many coordinates.
+#[inline]
+fn narrow_of(f: &Functional, points: &[Point], count: usize) -> Option<usize>
+    requires count { length f.now.normal ≡ count }
+    requires dimension { HaveDimension count points.now }
     requires fits { All (IsNarrowAt f.now) points.now }
     ensures { MatchOption result (IsNonnegative points.now f.now) (IsFarthest f.now points.now) }
 {
     let mut lowest = 0;
     let mut place = None;
     for i in 0..points.len() {
-        let value = f.narrow_at(&points[i]);
+        let value = f.narrow_at_in(&points[i], count);
         if value < lowest {
             lowest = value;
             place = Some(i);
         }
     }
     place
+}
+
+/// The same with one loop for each number of coordinates.
+fn farthest_narrow(f: &Functional, points: &[Point]) -> Option<usize>
+    requires dimension { HaveDimension (length f.now.normal) points.now }
+    requires fits { All (IsNarrowAt f.now) points.now }
+    ensures { MatchOption result (IsNonnegative points.now f.now) (IsFarthest f.now points.now) }
+{
+    match f.dim() {
+        1 => narrow_of(f, points, 1),
+        2 => narrow_of(f, points, 2),
+        3 => narrow_of(f, points, 3),
+        4 => narrow_of(f, points, 4),
+        5 => narrow_of(f, points, 5),
+        6 => narrow_of(f, points, 6),
+        count => narrow_of(f, points, count),
+    }
 }
 
 /// The same by values in 128 bits.

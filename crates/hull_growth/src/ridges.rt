@@ -5,7 +5,7 @@ ghost use Rattle.lattice_theory.specs.Affine.{Affine};
 ghost use Rattle.lattice_theory.specs.Vector.{HaveDimension};
 ghost use Rattle.lattice_theory.specs.Size.{absolute_sum};
 ghost use Rattle.ridge_theory.specs.Ridges.{IsRidge};
-ghost use Rattle.hull_growth.specs.steps.Rows.{NoThirdRow, NoThirdFunction};
+ghost use Rattle.hull_growth.specs.steps.Rows.{AreCornerRows, NoThirdRow, NoThirdFunction};
 ghost use Rattle.hull_growth.specs.steps.Growing.{IsHeld};
 
 use crate::rows::FacetRows;
@@ -28,17 +28,27 @@ fn is_alone_by_rows(rows: &[BitRow], i: usize, j: usize) -> bool
     true
 }
 
-/// Whether no third function vanishes at each corner at which the functions at two places do.
-fn is_alone_by_values(corners: &[Point], functions: &[Functional], i: usize, j: usize) -> bool
+/// Whether no third function vanishes at each corner at which the functions at two places do. A row that lacks what both have tells that its
+/// function doesn't.
+fn is_alone_by_values(
+    corners: &[Point],
+    functions: &[Functional],
+    rows: &[BitRow],
+    i: usize,
+    j: usize,
+) -> bool
     requires first { i < length functions.now }
     requires second { j < length functions.now }
+    requires rows { AreCornerRows corners.now functions.now rows.now }
     requires dimension { (n : ℕ) × HaveDimension n corners.now × All (λ f. length f.normal ≡ n) functions.now }
     requires small { All (λ c. absolute_sum c ≤ 2 ^ 30) corners.now }
     requires constants { All (λ f. nat_abs f.constant ≤ 2 ^ 100) functions.now }
     ensures { IsTrue result ↔ NoThirdFunction corners.now functions.now i j }
 {
+    let both = rows[i].meet(rows[j]);
     for k in 0..functions.len() {
-        if k != i
+        if both.is_part_of(rows[k])
+            && k != i
             && k != j
             && vanishes_with_both(corners, &functions[i], &functions[j], &functions[k])
         {
@@ -58,7 +68,7 @@ pub(crate) fn is_ridge(corners: &[Point], facets: &FacetRows, i: usize, j: usize
         → IsTrue result ↔ IsRidge n corners.now f g }
 {
     if corners.len() > MOST_INDICES {
-        return is_alone_by_values(corners, &facets.functions, i, j);
+        return is_alone_by_values(corners, &facets.functions, &facets.rows, i, j);
     }
     is_alone_by_rows(&facets.rows, i, j)
 }

@@ -9,7 +9,7 @@ ghost use Rattle.lattice_core.specs.ValueWidths.{FitsWidth, IsNarrowAt};
 ghost use Rattle.lattice_core.specs.declared.limits.TheConstants.{MOST_COORDINATES};
 
 use crate::entries::held;
-use crate::pairing::narrow_pair;
+use crate::pairing::{narrow_pair, narrow_pair_of};
 use crate::{MOST_COORDINATES, Point, Width, pair};
 use arrayvec::ArrayVec;
 use std::alloc::AllocError;
@@ -144,6 +144,17 @@ impl Functional {
         narrow_pair(self.normal(), p.entries()) + self.constant as i64
     }
 
+    /// The same where both have so many coordinates. Where the number is written out, a loop over points doesn't ask for it at each of them.
+    #[inline]
+    pub fn narrow_at_in(&self, p: &Point, count: usize) -> i64
+        requires function { length self.now.normal ≡ count }
+        requires point { length p.now ≡ count }
+        requires fits { IsNarrowAt self.now p.now }
+        ensures { result ≡ value self.now p.now }
+    {
+        narrow_pair_of(self.normal(), p.entries(), count) + self.constant as i64
+    }
+
     /// The same function again. It takes no memory.
     pub fn copied(&self) -> Functional
         ensures { result ≡ self.now }
@@ -197,6 +208,7 @@ mod tests {
         let p = Point::new(&[-1, -1]).expect(&rt, "two entries");
         assert_eq!(rt; f.value_at(&p, Width::Narrow), 12);
         assert_eq!(rt; f.value_at(&p, Width::Wide), 12);
+        assert_eq!(rt; f.narrow_at_in(&p, 2), 12);
     }
 
     #[test]

@@ -63,9 +63,9 @@ pub(crate) fn narrow_pair(a: &[i64], b: &[i64]) -> i64
     }
 }
 
-/// The same for vectors with so many entries.
+/// The same for vectors with so many entries. Where the number is written out, so are the products.
 #[inline]
-fn narrow_pair_of(a: &[i64], b: &[i64], count: usize) -> i64
+pub(crate) fn narrow_pair_of(a: &[i64], b: &[i64], count: usize) -> i64
     requires first { length a.now ≡ count }
     requires second { length b.now ≡ count }
     requires small { HasNarrowSums a.now b.now }

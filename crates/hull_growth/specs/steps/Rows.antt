@@ -13,6 +13,7 @@ AddsIndex row place new = (index : ℕ) → HasIndex new index ↔ (HasIndex row
 pub record IsCornerRow (corners : List (List ℤ)) (f : Affine) (row : ℕ) : Type 0 where
   pub corner : (i : ℕ) → i < length corners → i < MOST_INDICES → HasIndex row i ↔ (value f (slice_index_or corners i []) ≡ pos 0)
   pub behind : (i : ℕ) → length corners ≤ i → HasIndex row i → ⊥
+  pub few : (i : ℕ) → HasIndex row i → i < MOST_INDICES
 
 -- each function has a row, that at the same place
 pub record AreCornerRows (corners : List (List ℤ)) (functions : List Affine) (rows : List ℕ) : Type 0 where

@@ -13,6 +13,9 @@ pub is_alone_by_values-requires-clause-constants : goal.is_alone_by_values-requi
 is_alone_by_values-requires-clause-constants c = rw c.deref.ensures.value
     (held_constants c.requires.held.0 c.args.corners.now c.args.facets.now.functions.items c.args.facets.now.rows.items c.requires.held.1)
 
+pub is_alone_by_values-requires-clause-rows : goal.is_alone_by_values-requires-clause-rows
+is_alone_by_values-requires-clause-rows c = rw (c.deref.ensures.value, c.deref-then-corners-gt-MOST_INDICES.ensures.value) c.requires.held.1.rows
+
 pub returns-then-corners-gt-MOST_INDICES : goal.returns-then-corners-gt-MOST_INDICES
 returns-then-corners-gt-MOST_INDICES c = λ n f g h a b. decided (NoThirdFunction c.args.corners.now c.args.facets.now.functions.items c.args.i c.args.j)
     (IsRidge n c.args.corners.now f g) (IsTrue c.is_alone_by_values.result)
