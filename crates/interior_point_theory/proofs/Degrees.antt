@@ -83,7 +83,7 @@ systems_by_degrees_lem dim low count f lists = record {
         → IsSought (λ y. IsInteriorPointSystem (system_of d y)) (dim + 1) x → IsSystemOfRange dim low (low + count) s
     inside s x d e l h q = rw e (record { columns = q.places; least = l; most = omega arith; is_system = q.holds })
 
-system_asymmetric : (s t : Weighted) → SystemLess s t → SystemLess t s → ⊥
+pub system_asymmetric : (s t : Weighted) → SystemLess s t → SystemLess t s → ⊥
 system_asymmetric s t (inl l) (inl m) = omega arith
 system_asymmetric s t (inl l) (inr m) = let e = m.0 in omega arith
 system_asymmetric s t (inr l) (inl m) = let e = l.0 in omega arith

@@ -1,10 +1,10 @@
 -- Lists that ascend, by neighbours.
-use Rattle.std.proofs.Common.{◌≡◌, ◌⊎◌, inl, inr, ℕ, zero, suc, ◌+◌, ◌-◌, ◌<◌, ◌≤◌, List, [], ◌∷◌, length, drop, get_or, sym, ap, ◌∙◌, subst, arith}
+use Rattle.std.proofs.Common.{◌≡◌, ◌⊎◌, inl, inr, ℕ, zero, suc, ◌+◌, ◌-◌, ◌<◌, ◌≤◌, List, [], ◌∷◌, length, drop, get_or, ap, subst, arith}
 use Rattle.std.proofs.lemmas.Bool.{cases_lt}
 use Rattle.std.proofs.lemmas.List.{drop_more, drop_all}
 use Rattle.lattice_theory.specs.Order.{Ascends}
 use Rattle.lattice_core.specs.Weights.{total}
-use Rattle.lattice_theory.proofs.Members.{Each, empty, more, each_from_all, all_from_each, each_weaker}
+use Rattle.lattice_theory.proofs.Members.{empty, more, each_from_all, all_from_each, each_weaker}
 
 pub ascends_from_steps : (xs : List ℕ) → ((j : ℕ) → suc j < length xs → get_or xs j 0 ≤ get_or xs (suc j) 0) → Ascends (λ v w. v ≤ w) xs
 ascends_from_steps [] steps = tt

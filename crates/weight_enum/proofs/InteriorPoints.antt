@@ -1,9 +1,9 @@
 -- Interior points by the facets of the tails.
-use Rattle.std.proofs.Common.{◌≡◌, ◌↔◌, ℕ, zero, suc, ◌+◌, ◌*◌, ◌-◌, ◌<◌, ◌≤◌, List, [], ◌∷◌, length, map, ℤ, pos, ◌<ℤ◌, All, refl, sym, ap, ◌∙◌, subst, arith}
+use Rattle.std.proofs.Common.{◌≡◌, ◌↔◌, ℕ, zero, suc, ◌<◌, List, [], ◌∷◌, length, map, ℤ, pos, ◌<ℤ◌, All, refl, ap, ◌∙◌, subst, arith}
 use Rattle.std.specs.List.{Contains}
 use Rattle.lattice_theory.specs.Affine.{Affine}
-use Rattle.lattice_theory.specs.Facet.{IsFlat, IsFlatFunction, IsFacet, AreFacets}
-use Rattle.lattice_theory.proofs.Members.{Each, empty, more, each_from_in, each_in, each_from_all, all_from_each, contains_from_in, in_from_contains}
+use Rattle.lattice_theory.specs.Facet.{IsFlat, IsFlatFunction, AreFacets}
+use Rattle.lattice_theory.proofs.Members.{empty, more, each_from_in, each_in, each_from_all, all_from_each, contains_from_in, in_from_contains}
 use Rattle.lattice_core.specs.Weights.{Weighted, total, monomial_point}
 use Rattle.lattice_core.specs.Limits.{IsSized}
 use Rattle.lattice_core.specs.declared.faults.Refusal.{Refusal}
@@ -11,7 +11,7 @@ use Rattle.lattice_core.specs.declared.faults.Refusal.TheVariants.{Flat, Limit}
 use Rattle.lattice_core.specs.declared.faults.LimitName.TheVariants.{Size}
 use Rattle.hull.specs.Faults.{IsStartRefusal}
 use Rattle.interior_point_theory.specs.Interior.{HasInteriorPoint, system_of, ones}
-use Rattle.interior_point_theory.specs.Around.{AreAround, HasTails, IsTail}
+use Rattle.interior_point_theory.specs.Around.{HasTails, IsTail}
 use Rattle.interior_point_theory.proofs.Tails.{interior_by_tails_lem}
 use Rattle.weight_points.specs.steps.Waits.{spent}
 use Rattle.weight_points.proofs.Integral.{monomial_from_solution}

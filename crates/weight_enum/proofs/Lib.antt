@@ -2,3 +2,5 @@ mod Ascending
 mod PrimitiveParts
 mod Sizes
 mod InteriorPoints
+mod Cutting
+mod Listing

@@ -1,6 +1,5 @@
 -- A vector is primitive where it is its own primitive part.
-use Rattle.std.proofs.Common.{◌≡◌, ℕ, suc, List, [], ◌∷◌, ℤ, pos, ◌*ℤ◌, nat_abs, ◌<◌, ◌^◌, All, map, get_or, refl, sym, ap, ◌∙◌, subst, arith}
-use Rattle.std.proofs.lemmas.Int.{ints}
+use Rattle.std.proofs.Common.{◌≡◌, ℕ, suc, List, [], ◌∷◌, ℤ, pos, nat_abs, ◌<◌, ◌^◌, All, map, get_or, sym, ◌∙◌, subst, arith}
 use Rattle.lattice_theory.specs.Vector.{IsPrimitive, DividesInteger, scaled}
 use Rattle.lattice_theory.proofs.Integers.{*ℤ_comm}
 use Rattle.lattice_theory.proofs.Members.{Each, empty, more, all_from_each}

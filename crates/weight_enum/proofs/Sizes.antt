@@ -1,6 +1,5 @@
 -- The tails are within the size limit.
-use Rattle.std.proofs.Common.{◌≡◌, ℕ, zero, suc, ◌+◌, ◌*◌, ◌-◌, ◌<◌, ◌≤◌, List, [], ◌∷◌, length, ℤ, All, refl, arith}
-use Rattle.std.specs.List.{Contains}
+use Rattle.std.proofs.Common.{◌≡◌, ℕ, zero, suc, ◌+◌, ◌*◌, ◌<◌, ◌≤◌, List, length, ℤ, All, refl, arith}
 use Rattle.lattice_theory.specs.Size.{reach, size, absolute_sum}
 use Rattle.lattice_theory.proofs.Members.{Each, empty, more, each_from_in, all_from_each, contains_from_in}
 use Rattle.lattice_core.specs.Limits.{IsSized}

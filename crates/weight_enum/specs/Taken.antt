@@ -1,5 +1,5 @@
 -- The weights that the search takes. This project's own.
-use Rattle.std.specs.Prelude.{◌≡◌, ℕ, zero, suc, ◌<◌, ◌≤◌, List, length}
+use Rattle.std.specs.Prelude.{◌≡◌, ℕ, ◌<◌, ◌≤◌, List, length}
 use Rattle.std.specs.List.{All}
 use Rattle.lattice_core.specs.Weights.{total}
 use Rattle.weight_enum.specs.declared.weights.TheConstants.{MOST_DEGREE_OF_FIVE, MOST_DEGREE_OF_SIX}

@@ -1,6 +1,14 @@
 //! Tests of small weights.
-use crate::is_ip;
+use crate::{is_ip, systems_of_degree};
+use lattice_core::WeightSystem;
 use std::test::Fail;
+
+/// Whether the systems have these weights, in order.
+fn have_weights(systems: &[WeightSystem], lists: &[[u64; 4]]) -> bool {
+    systems.len() == lists.len()
+        && systems.iter().zip(lists).all(|(system, list)| system.weights.as_slice()
+            == list.as_slice())
+}
 
 #[test]
 fn weights_with_an_interior_point_are_a_system(rt: HostRuntime) -> Result<(), Fail> {
@@ -11,5 +19,41 @@ fn weights_with_an_interior_point_are_a_system(rt: HostRuntime) -> Result<(), Fa
     assert!(rt; !is_ip(rt.alloc(), &[1, 1, 3])?);
     assert!(rt; !is_ip(rt.alloc(), &[2, 1, 1])?);
     assert!(rt; !is_ip(rt.alloc(), &[2, 2, 2])?);
+    Ok(())
+}
+
+// These are the first of the 95 families of K3 surfaces in weighted projective spaces.
+#[test]
+fn systems_of_a_degree_are_listed_in_order(rt: HostRuntime) -> Result<(), Fail> {
+    let alloc = rt.alloc();
+    assert!(rt; have_weights(&systems_of_degree(alloc, 4, 3)?, &[]));
+    assert!(rt; have_weights(&systems_of_degree(alloc, 4, 4)?, &[[1, 1, 1, 1]]));
+    assert!(rt;
+        have_weights(
+            &systems_of_degree(alloc, 4, 6)?,
+            &[[1, 1, 1, 3], [1, 1, 2, 2]]
+        )
+    );
+    assert!(rt;
+        have_weights(
+            &systems_of_degree(alloc, 4, 8)?,
+            &[[1, 1, 2, 4], [1, 2, 2, 3]]
+        )
+    );
+    assert!(rt; have_weights(&systems_of_degree(alloc, 4, 11)?, &[[1, 2, 3, 5]]));
+    let twelve = systems_of_degree(alloc, 4, 12)?;
+    assert!(rt;
+        have_weights(
+            &twelve,
+            &[
+                [1, 1, 4, 6],
+                [1, 2, 3, 6],
+                [1, 2, 4, 5],
+                [1, 3, 4, 4],
+                [2, 2, 3, 5],
+                [2, 3, 3, 4],
+            ]
+        )
+    );
     Ok(())
 }

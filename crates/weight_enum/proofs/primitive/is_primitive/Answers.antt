@@ -1,7 +1,6 @@
-use Rattle.std.proofs.Common.{◌≡◌, ◌∙◌, ℕ, ◌<◌, ◌^◌, get_or, pos, map, refl, sym, arith}
+use Rattle.std.proofs.Common.{◌≡◌, ◌∙◌, pos, map, refl, sym, arith}
 use Rattle.std.proofs.lemmas.Bool.{false≢true}
 use Rattle.std.specs.Cmp.Rules.{signed_items}
-use Rattle.lattice_theory.specs.Vector.{IsPrimitive}
 use Rattle.lattice_theory.proofs.Divisibility.{primitive_nonzero}
 use Rattle.weight_enum.proofs.PrimitiveParts.{primitive_from_part, part_from_primitive, small_integers}
 use Rattle.weight_enum.proofs.primitive.is_primitive.Goals as goal

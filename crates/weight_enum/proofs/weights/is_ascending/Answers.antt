@@ -1,5 +1,5 @@
-use Rattle.std.proofs.Common.{◌≡◌, ⊎_elim, ℕ, suc, ◌+◌, ◌-◌, ◌<◌, ◌≤◌, get_or, sym, subst, refl, arith}
-use Rattle.std.proofs.lemmas.Bool.{cases_lt, false≢true}
+use Rattle.std.proofs.Common.{◌≡◌, ℕ, suc, ◌-◌, ◌≤◌, get_or, sym, subst, refl, arith}
+use Rattle.std.proofs.lemmas.Bool.{false≢true}
 use Rattle.weight_enum.proofs.Ascending.{ascends_from_steps, steps_from_ascends, one_step_more}
 use Rattle.weight_enum.proofs.weights.is_ascending.Goals as goal
 

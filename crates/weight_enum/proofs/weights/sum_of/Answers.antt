@@ -1,4 +1,4 @@
-use Rattle.std.proofs.Common.{◌≡◌, ◌+◌, drop, arith}
+use Rattle.std.proofs.Common.{arith}
 use Rattle.weight_enum.proofs.Ascending.{total_drop, total_end}
 use Rattle.weight_enum.proofs.weights.sum_of.Goals as goal
 
