@@ -1,4 +1,5 @@
 pub mod Nef
+pub mod Places
 pub mod Reflexive
 pub mod Agreement
 pub mod Walk

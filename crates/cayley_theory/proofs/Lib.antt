@@ -1,0 +1,4 @@
+pub mod PartPoints
+pub mod ConeVectors
+pub mod ConeCounts
+pub mod ExampleSteps

@@ -1,0 +1,9 @@
+pub use Rattle.lattice_theory.specs.Order
+pub use Rattle.face_theory.specs.Faces
+pub use Rattle.face_theory.specs.Pairings
+pub use Rattle.nef_theory.specs.Nef
+pub use Rattle.nef_theory.specs.Places
+pub mod Cones
+pub mod Counts
+pub mod Laws
+pub mod Examples
