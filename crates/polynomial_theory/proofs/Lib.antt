@@ -1,0 +1,6 @@
+pub mod Sums
+pub mod Times
+pub mod Places
+pub mod Splits
+pub mod LowPowers
+pub mod HighPowers

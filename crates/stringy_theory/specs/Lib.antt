@@ -1,0 +1,11 @@
+pub use Rattle.face_theory.specs.Faces
+pub use Rattle.polynomial_theory.specs.Sums
+pub use Rattle.polynomial_theory.specs.Series
+pub mod Eulerian
+pub mod HStar
+pub mod FaceSeries
+pub mod Stringy
+pub mod CountedFaces
+pub mod RankedTables
+pub mod Laws
+pub mod Examples
