@@ -52,6 +52,18 @@ pub enum LimitName {
     DualSize,
     /// The number of the dual's lattice points.
     DualPoints,
+    /// The number of parts of a nef partition.
+    Codim,
+    /// The dimension and the number of parts, together.
+    Rank,
+    /// The number of lattice points of a large dilate of the polytope.
+    ScanM,
+    /// The number of lattice points of a large dilate of the dual.
+    ScanN,
+    /// The number of pairs of one degree in a Cayley cone.
+    ConeM,
+    /// The number of pairs of one degree in the dual of a Cayley cone.
+    ConeN,
 }
 
 /// Why an item is refused.

@@ -4,7 +4,7 @@ use Rattle.std.specs.Fmt.{decimal}
 use Rattle.lattice_core.specs.declared.faults.Refusal.{Refusal}
 use Rattle.lattice_core.specs.declared.faults.Refusal.TheVariants.{Flat, Limit}
 use Rattle.lattice_core.specs.declared.faults.LimitName.{LimitName}
-use Rattle.lattice_core.specs.declared.faults.LimitName.TheVariants.{Systems, Weights, Degree, DegreeProduct, Frame, Dim, Input, Monomials, Size, Facets, Vertices, Points, DualSize, DualPoints}
+use Rattle.lattice_core.specs.declared.faults.LimitName.TheVariants as limits
 use Rattle.palp_words.specs.declared.fault.WordKind.{WordKind}
 use Rattle.palp_words.specs.declared.fault.WordKind.TheVariants as words
 use Rattle.palp_input.specs.declared.fault.TextKind.{TextKind}
@@ -15,20 +15,26 @@ use Rattle.palp_print.specs.declared.notes.Note.TheVariants.{Words, Text, Refuse
 
 -- the name of a limit
 abbrev pub limit_name : LimitName → List ℕ
-limit_name Systems = codes "Systems"
-limit_name Weights = codes "Weights"
-limit_name Degree = codes "Degree"
-limit_name DegreeProduct = codes "DegreeProduct"
-limit_name Frame = codes "Frame"
-limit_name Dim = codes "Dim"
-limit_name Input = codes "Input"
-limit_name Monomials = codes "Monomials"
-limit_name Size = codes "Size"
-limit_name Facets = codes "Facets"
-limit_name Vertices = codes "Vertices"
-limit_name Points = codes "Points"
-limit_name DualSize = codes "DualSize"
-limit_name DualPoints = codes "DualPoints"
+limit_name limits.Systems = codes "Systems"
+limit_name limits.Weights = codes "Weights"
+limit_name limits.Degree = codes "Degree"
+limit_name limits.DegreeProduct = codes "DegreeProduct"
+limit_name limits.Frame = codes "Frame"
+limit_name limits.Dim = codes "Dim"
+limit_name limits.Input = codes "Input"
+limit_name limits.Monomials = codes "Monomials"
+limit_name limits.Size = codes "Size"
+limit_name limits.Facets = codes "Facets"
+limit_name limits.Vertices = codes "Vertices"
+limit_name limits.Points = codes "Points"
+limit_name limits.DualSize = codes "DualSize"
+limit_name limits.DualPoints = codes "DualPoints"
+limit_name limits.Codim = codes "Codim"
+limit_name limits.Rank = codes "Rank"
+limit_name limits.ScanM = codes "ScanM"
+limit_name limits.ScanN = codes "ScanN"
+limit_name limits.ConeM = codes "ConeM"
+limit_name limits.ConeN = codes "ConeN"
 
 -- what the note says of a refusal
 abbrev pub refusal_text : Refusal → List ℕ

@@ -52,6 +52,12 @@ fn name_of(limit: LimitName) -> &'static [u8]
         LimitName::Points => b"Points",
         LimitName::DualSize => b"DualSize",
         LimitName::DualPoints => b"DualPoints",
+        LimitName::Codim => b"Codim",
+        LimitName::Rank => b"Rank",
+        LimitName::ScanM => b"ScanM",
+        LimitName::ScanN => b"ScanN",
+        LimitName::ConeM => b"ConeM",
+        LimitName::ConeN => b"ConeN",
     }
 }
 
