@@ -1,6 +1,8 @@
 -- How large facets are: each is fixed by some of the points, whose absolute sums are at most their size.
 use Rattle.std.proofs.Common.{◌≡◌, ℕ, zero, suc, ◌*◌, ◌^◌, ◌≤◌, List, length, ℤ, nat_abs, ap, subst, All, Contains, arith}
 use Rattle.std.specs.Prelude.{◌-◌}
+use Rattle.std.proofs.Math.Nat.{mul-le-mul_left, pow-le-pow_left}
+use Rattle.std.proofs.lemmas.Nat.{mul-le}
 use Rattle.std.proofs.lemmas.List.Elements.{All-contains, All-weaker, All-contains_itself}
 use Rattle.lattice_theory.specs.Vector.{HaveDimension}
 use Rattle.lattice_theory.specs.Affine.{Affine, Vanishes, IsMultiple}
@@ -72,15 +74,35 @@ corner_facet_within k points corners f d solid among facet = by (facet_by_points
         (record { dimension = facet.dimension; primitive = facet.primitive; vanishes = v; determined = det })
 
 -- so the values of such facets at all points fit the width that serves the points' size
-pub corner_facets_fit : (n : ℕ) (points corners : List (List ℤ)) (facets : List Affine) (width : Width) → 1 ≤ n → HaveDimension n points
-    → HaveDimension n corners → (IsFlat n corners → ⊥) → ((c : List ℤ) → Contains corners c → Contains points c)
+pub corner_facets_fit : (n : ℕ) (points corners : List (List ℤ)) (facets : List Affine) (width : Width) → HaveDimension n points → HaveDimension n corners
+    → (IsFlat n corners → ⊥) → ((c : List ℤ) → Contains corners c → Contains points c)
     → AreFacetsInAnyOrder n corners facets → Serves n (size n points) width → All (λ f. All (FitsWidth width f) points) facets
-corner_facets_fit zero points corners facets width some d e s among h serves = absurd (omega (arith, some))
-corner_facets_fit (suc k) points corners facets width some d e s among h serves =
+corner_facets_fit zero points corners facets width d e s among h serves =
+    All-weaker (Contains facets) (λ f. All (FitsWidth width f) points) (λ f c. absurd (no_facet f corners ((h f).0 c))) facets
+    (All-contains_itself facets)
+corner_facets_fit (suc k) points corners facets width d e s among h serves =
     All-weaker (Contains facets) (λ f. All (FitsWidth width f) points)
     (λ f c. All-weaker (λ p. absolute_sum p ≤ size (suc k) points) (FitsWidth width f)
     (λ p small. serves f p (corner_facet_within k points corners f d (solid_at k corners e s) among ((h f).0 c)) small) points
     (point_absolute_sum_lem (suc k) points d)) facets (All-contains_itself facets)
+
+power_more : (s t j : ℕ) → s ≤ t → (2 * s) ^ j ≤ (2 * t) ^ j
+power_more s t j h = pow-le-pow_left (mul-le-mul_left 2 h) j
+
+-- what is within the bound for a size is within that for a larger one
+pub within_larger : (n s t : ℕ) (f : Affine) → s ≤ t → IsWithin n s f → IsWithin n t f
+within_larger n s t f h within =
+    let power = power_more s t (n - 1) h in record {
+      normal = λ k d l. let b = within.normal k d l in omega arith;
+      constant = (let b = within.constant in let p = mul-le ((2 * s) ^ (n - 1)) s ((2 * t) ^ (n - 1)) t power h in omega arith);
+    }
+
+-- the width that serves points serves some of them
+pub fewer_serves : (n : ℕ) (points fewer : List (List ℤ)) (width : Width) → ((p : List ℤ) → Contains fewer p → Contains points p)
+    → Serves n (size n points) width → Serves n (size n fewer) width
+fewer_serves n points fewer width among serves f p within small =
+    let less = fewer_size n fewer points (λ q i. in_from_contains points (among q (contains_from_in i))) in
+    serves f p (within_larger n (size n fewer) (size n points) f less within) (omega arith)
 
 -- so all facets of a list are within the bound
 pub facets_within : (n : ℕ) (points : List (List ℤ)) (facets : List Affine) → HaveDimension n points → (IsFlat n points → ⊥)

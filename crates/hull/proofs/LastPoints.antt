@@ -1,5 +1,5 @@
 -- Some of the points, as the last few: they are within the size limit as all are, and flat where all are.
-use Rattle.std.proofs.Common.{◌≡◌, ℕ, ◌<◌, List, length, take, drop, length-drop, ℤ, pos, sym, subst, All, Contains, true, Some, None, arith}
+use Rattle.std.proofs.Common.{◌≡◌, ℕ, ◌<◌, List, length, take, drop, length-drop, ℤ, pos, sym, subst, Contains, true, Some, None, arith}
 use Rattle.std.specs.Prelude.{◌-◌, Option, MatchOption, is_none}
 use Rattle.std.proofs.lemmas.Bool.{true≢false}
 use Rattle.std.proofs.lemmas.List.{length-take, take-append-drop}

@@ -1,21 +1,26 @@
 -- The points outside the first simplex, with its corners, have the hull of all points.
-use Rattle.std.proofs.Common.{◌≡◌, ◌⊎◌, ◌↔◌, inl, inr, ⊎_elim, ℕ, zero, suc, ◌+◌, ◌<◌, ◌≤◌, List, [], ◌∷◌, ◌++◌, length, get_or, take, ℤ, pos, ◌≤ℤ◌}
+use Rattle.std.proofs.Common.{◌≡◌, inl, inr, ⊎_elim, ℕ, zero, suc, ◌+◌, ◌<◌, List, [], ◌∷◌, ◌++◌, length, get_or, take, ℤ, pos, ◌≤ℤ◌}
 use Rattle.std.proofs.Common.{refl, sym, ap, ◌∙◌, subst, All, Contains, arith}
 use Rattle.std.proofs.lemmas.List.Elements.{All-contains, All-weaker, All-contains_itself, Contains-append_left, Contains-push, Contains-push_cases}
 use Rattle.lattice_theory.specs.Vector.{HaveDimension}
 use Rattle.lattice_theory.specs.Affine.{Affine, value, IsNonnegative}
+use Rattle.lattice_theory.specs.Size.{size}
 use Rattle.lattice_theory.specs.Hull.{InHull}
 use Rattle.lattice_theory.specs.Facet.{IsFlat, IsFacet}
 use Rattle.facet_theory.proofs.Hull.{hull_by_facets_lem}
 use Rattle.lattice_core.specs.Dimensions.{dimension_of}
 use Rattle.lattice_core.specs.PointLists.{AreSizedPoints, AreSolidPoints}
+use Rattle.lattice_core.specs.ValueWidths.{Serves}
+use Rattle.lattice_core.specs.declared.value_widths.Width.{Width}
 use Rattle.lattice_core.proofs.Dimension.{dimension_is}
 use Rattle.hull_growth.specs.Grown.{HasFacets}
 use Rattle.hull_growth.proofs.Appending.{contains_more}
 use Rattle.hull_growth.proofs.Small.{solid_at, no_facet, fewer_dimension}
 use Rattle.hull.specs.steps.Growing.{IsOuter, IsWholeHull}
 use Rattle.hull.specs.steps.Simplex.{IsSimplex}
+use Rattle.hull.specs.steps.Widths.{ServesPoints}
 use Rattle.hull.proofs.BuilderFacts.{has_facets}
+use Rattle.hull.proofs.FacetBounds.{fewer_serves}
 use Rattle.hull.proofs.Growing.{facets_of_points}
 use Rattle.hull.proofs.LastPoints.{fewer_sized_points, fewer_solid}
 
@@ -83,6 +88,11 @@ module _ (points corners outer : List (List ℤ)) (functions : List Affine) (sol
   pub outer_dimension : dimension_of outer ≡ dimension_of points
   outer_dimension = dimension_is (dimension_of points) outer some
       (fewer_dimension (dimension_of points) outer points outer_among solid.sized.are_points.one_dimension)
+
+  -- the width that serves the points serves them
+  pub outer_serves : (width : Width) → ServesPoints points width → ServesPoints outer width
+  outer_serves width serves = subst (λ (n : ℕ). Serves n (size n outer) width) (sym outer_dimension)
+      (fewer_serves (dimension_of points) points outer width outer_among serves)
 
   -- the simplex is one of outer points
   pub outer_simplex : IsSimplex outer corners

@@ -1,8 +1,5 @@
 -- The farthest points take the places of the unit simplex's corners one after another.
-use Rattle.std.proofs.Common.{◌≡◌, ◌≢◌, ⊎_elim, ℕ, zero, suc, ◌+◌, ◌*◌, ◌<◌, ◌≤◌, List, [], length, set, ℤ, pos, sym, ◌∙◌, subst, arith, All, Contains}
-use Rattle.std.specs.Prelude.{◌-◌, ◌^◌}
-use Rattle.std.proofs.Math.Nat.{mul-le-mul_left, pow-le-pow_left}
-use Rattle.std.proofs.lemmas.Nat.{mul-le}
+use Rattle.std.proofs.Common.{◌≡◌, ◌≢◌, ⊎_elim, ℕ, zero, suc, ◌+◌, ◌<◌, ◌≤◌, List, [], length, set, ℤ, pos, sym, ◌∙◌, subst, arith, All, Contains}
 use Rattle.std.proofs.lemmas.List.{get_or_default, get_or-set_same, get_or-set_other}
 use Rattle.std.proofs.lemmas.List.Elements.{All-contains, All-weaker}
 use Rattle.lattice_theory.specs.Vector.{HaveDimension}
@@ -23,7 +20,7 @@ use Rattle.hull_growth.specs.Grown.{HasFacets}
 use Rattle.hull.specs.steps.Tight.{function_of}
 use Rattle.hull.specs.steps.Facing.{corner_of, IsFacingSimplex, IsUnitSimplex}
 use Rattle.hull.specs.steps.Simplex.{IsSimplex}
-use Rattle.hull.proofs.FacetBounds.{facets_bounded_lem}
+use Rattle.hull.proofs.FacetBounds.{facets_bounded_lem, within_larger}
 use Rattle.hull.proofs.SimplexFacets.{same_or_apart, facing_facet, facing_facets}
 use Rattle.hull.proofs.SimplexExchange.{reached_size}
 use Rattle.hull.proofs.UnitSimplex.{unit_is_simplex}
@@ -69,17 +66,9 @@ module _ (n i : ℕ) (points corners : List (List ℤ)) (functions : List Affine
   less : size n corners ≤ size n points
   less = reached_size n points corners simplex.small
 
-  power_less : (s t j : ℕ) → s ≤ t → (2 * s) ^ j ≤ (2 * t) ^ j
-  power_less s t j h = pow-le-pow_left (mul-le-mul_left 2 h) j
-
   within : IsWithin n (size n points) (function_of functions i)
-  within =
-      let bound = facets_bounded_lem n corners simplex.solid (function_of functions i) facet in
-      let power = power_less (size n corners) (size n points) (n - 1) less in record {
-        normal = λ k d l. let b = bound.normal k d l in omega arith;
-        constant = (let b = bound.constant in let p = mul-le ((2 * size n corners) ^ (n - 1)) (size n corners) ((2 * size n points) ^ (n - 1)) (size n points)
-            power less in omega arith);
-      }
+  within = within_larger n (size n corners) (size n points) (function_of functions i) less
+      (facets_bounded_lem n corners simplex.solid (function_of functions i) facet)
 
   pub simplex_fits : (width : Width) → Serves n (size n points) width → All (λ p. FitsWidth width (function_of functions i) p) points
   simplex_fits width serves = All-weaker (λ p. absolute_sum p ≤ size n points) (λ p. FitsWidth width (function_of functions i) p)

@@ -5,3 +5,4 @@ pub mod Candidates
 pub mod Growing
 pub mod Simplex
 pub mod Facing
+pub mod Widths

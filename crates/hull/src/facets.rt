@@ -13,6 +13,7 @@ ghost use Rattle.lattice_core.specs.ValueWidths.{IsWithin};
 ghost use Rattle.hull_growth.specs.Grown.{HasFacets};
 ghost use Rattle.hull.specs.steps.Growing.{IsWholeHull};
 ghost use Rattle.hull.specs.steps.Simplex.{IsSimplex};
+ghost use Rattle.hull.specs.steps.Widths.{ServesPoints};
 ghost use Rattle.hull.specs.Faults.{IsSizeRefusal, IsStartRefusal, IsFacetsRefusal};
 
 use crate::flat::flat_function;
@@ -20,8 +21,8 @@ use crate::outer::outer_points;
 use crate::simplex::first_simplex;
 use hull_growth::{Growth, first_beyond};
 use lattice_core::{
-    Fault, Functional, LimitName, MOST_FACETS, NoMemory, Point, Refusal, ascending_functions,
-    size_limit, size_of, width_of,
+    Fault, Functional, LimitName, MOST_FACETS, NoMemory, Point, Refusal, Width,
+    ascending_functions, size_limit, size_of, width_of,
 };
 use std::alloc::Global;
 
@@ -32,14 +33,14 @@ fn grown_hull(
     corners: Vec<Point>,
     functions: Vec<Functional>,
     points: &[Point],
+    width: Width,
 ) -> Result<(Vec<Point>, Vec<Functional>), NoMemory>
     requires points { AreSizedPoints points.now }
     requires simplex { IsSimplex points.now corners.items }
     requires facets { HasFacets (dimension_of corners.items) corners.items functions.items }
+    requires width { ServesPoints points.now width }
     ensures { IfOk result (λ hull. IsWholeHull points.now hull.0.items hull.1.items) }
 {
-    let n = points[0].dim();
-    let width = width_of(n, size_of(n, points));
     let mut growth = Growth::new(alloc, corners, functions)?;
     let mut done = 0;
     while let Some(beyond) = first_beyond(growth.facets(), points, done, width) {
@@ -56,19 +57,22 @@ fn grown_hull(
 pub(crate) fn whole_hull(
     alloc: Global,
     points: &[Point],
+    width: Width,
 ) -> Result<(Vec<Point>, Vec<Functional>), NoMemory>
     requires points { AreSolidPoints points.now }
+    requires width { ServesPoints points.now width }
     ensures { IfOk result (λ hull. IsWholeHull points.now hull.0.items hull.1.items) }
 {
-    let (corners, functions) = first_simplex(alloc, points)?;
-    let outer = outer_points(alloc, &corners, &functions, points)?;
-    grown_hull(alloc, corners, functions, &outer)
+    let (corners, functions) = first_simplex(alloc, points, width)?;
+    let outer = outer_points(alloc, &corners, &functions, points, width)?;
+    grown_hull(alloc, corners, functions, &outer, width)
 }
 
-/// Refuses points that are too large.
-pub(crate) fn sized(points: &[Point]) -> Result<(), Refusal>
+/// Refuses points that are too large, and tells the width that serves the others.
+pub(crate) fn sized(points: &[Point]) -> Result<Width, Refusal>
     requires points { ArePoints points.now }
     ensures sized { OnOk result (AreSizedPoints points.now) }
+    ensures width { IfOk result (ServesPoints points.now) }
     ensures refused { IfErr result (IsSizeRefusal (dimension_of points.now) points.now) }
 {
     let n = points[0].dim();
@@ -76,7 +80,7 @@ pub(crate) fn sized(points: &[Point]) -> Result<(), Refusal>
     if size > size_limit(n) as u128 {
         return Err(Refusal::Limit(LimitName::Size, size));
     }
-    Ok(())
+    Ok(width_of(n, size))
 }
 
 /// How many of the last points are looked at first.
@@ -92,19 +96,20 @@ fn are_last_solid(points: &[Point]) -> bool
     flat_function(&points[from..]).is_none()
 }
 
-/// Refuses points that are too large, and then flat ones.
-pub(crate) fn solid(points: &[Point]) -> Result<(), Refusal>
+/// Refuses points that are too large, and then flat ones, and tells the width that serves the others.
+pub(crate) fn solid(points: &[Point]) -> Result<Width, Refusal>
     requires points { ArePoints points.now }
     ensures solid { OnOk result (AreSolidPoints points.now) }
+    ensures width { IfOk result (ServesPoints points.now) }
     ensures refused { IfErr result (IsStartRefusal (dimension_of points.now) points.now) }
 {
-    sized(points)?;
+    let width = sized(points)?;
     if are_last_solid(points) {
-        return Ok(());
+        return Ok(width);
     }
     match flat_function(points) {
         Some(function) => Err(Refusal::Flat(function)),
-        None => Ok(()),
+        None => Ok(width),
     }
 }
 
@@ -119,8 +124,8 @@ pub fn all_facets(alloc: Global, points: &[Point]) -> Result<Vec<Functional>, Fa
     ensures refused { IfErr result (Stops (IsStartRefusal (dimension_of points.now) points.now)) }
     ensures no_memory { result ≡ Err Fault.NoMemory → AreSolidPoints points.now }
 {
-    solid(points)?;
-    let (_corners, facets) = whole_hull(alloc, points)?;
+    let width = solid(points)?;
+    let (_corners, facets) = whole_hull(alloc, points, width)?;
     Ok(facets)
 }
 

@@ -9,9 +9,10 @@ ghost use Rattle.lattice_core.specs.ValueWidths.{FitsWidth};
 ghost use Rattle.hull_growth.specs.Grown.{HasFacets};
 ghost use Rattle.hull.specs.steps.Growing.{IsOuter};
 ghost use Rattle.hull.specs.steps.Simplex.{IsSimplex};
+ghost use Rattle.hull.specs.steps.Widths.{ServesPoints};
 
 use crate::builder::copied_points;
-use lattice_core::{Functional, NoMemory, Point, Width, size_of, width_of};
+use lattice_core::{Functional, NoMemory, Point, Width};
 use std::alloc::Global;
 
 /// Whether no function is negative at the point, by values in a width that both fit.
@@ -29,14 +30,14 @@ pub(crate) fn outer_points(
     corners: &[Point],
     functions: &[Functional],
     points: &[Point],
+    width: Width,
 ) -> Result<Vec<Point>, NoMemory>
     requires points { AreSolidPoints points.now }
     requires simplex { IsSimplex points.now corners.now }
     requires facets { HasFacets (dimension_of corners.now) corners.now functions.now }
+    requires width { ServesPoints points.now width }
     ensures { IfOk result (λ outer. IsOuter corners.now functions.now points.now outer.items) }
 {
-    let n = points[0].dim();
-    let width = width_of(n, size_of(n, points));
     let mut outer = copied_points(alloc, corners)?;
     for p in points {
         if !are_nonnegative(functions, p, width) {

@@ -43,8 +43,8 @@ pub fn hull_of(alloc: Global, points: &[Point]) -> Result<Hull, Fault>
     ensures refused { IfErr result (Stops (IsPolytopeRefusal (dimension_of points.now) points.now)) }
     ensures no_memory { result ≡ Err Fault.NoMemory → AreSolidPoints points.now }
 {
-    solid(points)?;
-    let (corners, facets) = whole_hull(alloc, points)?;
+    let width = solid(points)?;
+    let (corners, facets) = whole_hull(alloc, points, width)?;
     if facets.len() > MOST_FACETS {
         return Err(Fault::Refused(Refusal::Limit(LimitName::Facets, facets.len() as u128)));
     }

@@ -10,23 +10,25 @@ ghost use Rattle.lattice_core.specs.Combine.{IsSmallAt};
 ghost use Rattle.lattice_core.specs.declared.limits.TheConstants.{MOST_COORDINATES};
 ghost use Rattle.lattice_core.specs.Dimensions.{dimension_of};
 ghost use Rattle.lattice_core.specs.PointLists.{AreSolidPoints};
-ghost use Rattle.lattice_core.specs.ValueWidths.{FitsWidth};
+ghost use Rattle.lattice_core.specs.ValueWidths.{FitsWidth, IsNarrowAt, IsWideAt};
 ghost use Rattle.hull_growth.specs.Grown.{HasFacets};
 ghost use Rattle.hull.specs.steps.Tight.{function_of};
 ghost use Rattle.hull.specs.steps.Facing.{corner_of, IsFacingSimplex, IsTurned, IsTurnable, AreAxes, unit_step, step_at, IsStepped, IsStepFunction, IsTopFunction, IsUnitSimplex};
 ghost use Rattle.hull.specs.steps.Simplex.{IsSimplex};
+ghost use Rattle.hull.specs.steps.Widths.{ServesPoints};
 
 use crate::functions::opposite;
 use arrayvec::ArrayVec;
-use lattice_core::{
-    Functional, MOST_COORDINATES, NoMemory, Point, Width, combine, size_of, width_of,
-};
+use lattice_core::{Functional, MOST_COORDINATES, NoMemory, Point, Width, combine};
 use std::alloc::Global;
 
-/// The place of a point at which the function is largest in absolute value, where it isn't 0 at all of them.
-fn farthest(points: &[Point], f: &Functional, width: Width) -> usize
-    requires dimension { HaveDimension (length f.now.normal) points.now }
-    requires fits { All (λ p. FitsWidth width f.now p) points.now }
+/// The place of a point at which the function is largest in absolute value, where it isn't 0 at all of them, by values in 64 bits. All have so
+/// many coordinates.
+#[inline]
+fn narrow_of(points: &[Point], f: &Functional, count: usize) -> usize
+    requires count { length f.now.normal ≡ count }
+    requires dimension { HaveDimension count points.now }
+    requires fits { All (IsNarrowAt f.now) points.now }
     requires somewhere { All (λ p. value f.now p ≡ pos 0) points.now → ⊥ }
     ensures within { result < length points.now }
     ensures nonzero { value f.now (corner_of points.now result) ≢ pos 0 }
@@ -34,13 +36,66 @@ fn farthest(points: &[Point], f: &Functional, width: Width) -> usize
     let mut far = 0;
     let mut largest = 0;
     for i in 0..points.len() {
-        let distance = f.value_at(&points[i], width).unsigned_abs();
+        let distance = f.narrow_at_in(&points[i], count).unsigned_abs();
         if distance > largest {
             largest = distance;
             far = i;
         }
     }
     far
+}
+
+/// The same with one loop for each number of coordinates.
+fn farthest_narrow(points: &[Point], f: &Functional) -> usize
+    requires dimension { HaveDimension (length f.now.normal) points.now }
+    requires fits { All (IsNarrowAt f.now) points.now }
+    requires somewhere { All (λ p. value f.now p ≡ pos 0) points.now → ⊥ }
+    ensures within { result < length points.now }
+    ensures nonzero { value f.now (corner_of points.now result) ≢ pos 0 }
+{
+    match f.dim() {
+        1 => narrow_of(points, f, 1),
+        2 => narrow_of(points, f, 2),
+        3 => narrow_of(points, f, 3),
+        4 => narrow_of(points, f, 4),
+        5 => narrow_of(points, f, 5),
+        6 => narrow_of(points, f, 6),
+        count => narrow_of(points, f, count),
+    }
+}
+
+/// The same by values in 128 bits.
+fn farthest_wide(points: &[Point], f: &Functional) -> usize
+    requires dimension { HaveDimension (length f.now.normal) points.now }
+    requires fits { All (IsWideAt f.now) points.now }
+    requires somewhere { All (λ p. value f.now p ≡ pos 0) points.now → ⊥ }
+    ensures within { result < length points.now }
+    ensures nonzero { value f.now (corner_of points.now result) ≢ pos 0 }
+{
+    let mut far = 0;
+    let mut largest = 0;
+    for i in 0..points.len() {
+        let distance = f.at(&points[i]).unsigned_abs();
+        if distance > largest {
+            largest = distance;
+            far = i;
+        }
+    }
+    far
+}
+
+/// The same in a width.
+fn farthest(points: &[Point], f: &Functional, width: Width) -> usize
+    requires dimension { HaveDimension (length f.now.normal) points.now }
+    requires fits { All (FitsWidth width f.now) points.now }
+    requires somewhere { All (λ p. value f.now p ≡ pos 0) points.now → ⊥ }
+    ensures within { result < length points.now }
+    ensures nonzero { value f.now (corner_of points.now result) ≢ pos 0 }
+{
+    match width {
+        Width::Narrow => farthest_narrow(points, f),
+        Width::Wide => farthest_wide(points, f),
+    }
 }
 
 #[inline]
@@ -198,13 +253,14 @@ fn unit_simplex(alloc: Global, first: &Point) -> Result<(Vec<Point>, Vec<Functio
 pub(crate) fn first_simplex(
     alloc: Global,
     points: &[Point],
+    width: Width,
 ) -> Result<(Vec<Point>, Vec<Functional>), NoMemory>
     requires points { AreSolidPoints points.now }
+    requires width { ServesPoints points.now width }
     ensures corners { IfOk result (λ simplex. IsSimplex points.now simplex.0.items) }
     ensures facets { IfOk result (λ simplex. HasFacets (dimension_of points.now) simplex.0.items simplex.1.items) }
 {
     let n = points[0].dim();
-    let width = width_of(n, size_of(n, points));
     let (mut corners, mut functions) = unit_simplex(alloc, &points[0])?;
     for place in 1..n + 1 {
         let far = farthest(points, &functions[place], width);

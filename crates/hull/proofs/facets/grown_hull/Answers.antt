@@ -6,7 +6,6 @@ use Rattle.hull_growth.specs.Beyond.{IsFirstBeyond}
 use Rattle.hull_growth.specs.Grown.{HasFacets}
 use Rattle.lattice_theory.specs.Vector.{HaveDimension}
 use Rattle.lattice_theory.specs.Facet.{IsFlat, AreFacetsInAnyOrder}
-use Rattle.lattice_core.proofs.Dimension.{dimension_first}
 use Rattle.hull.proofs.FacetBounds.{corner_facets_fit}
 use Rattle.hull.specs.steps.Growing.{IsGrowing, IsWholeHull}
 use Rattle.hull.proofs.Growing.{beyond_within, beyond_new, beyond_behind, facets_match, facets_dimension_of, turn_within, growing_more, growing_whole, others_less}
@@ -21,16 +20,14 @@ first_beyond-requires-clause-dimension c = facets_match (dimension_of c.args.poi
 pub first_beyond-requires-clause-fits : goal.first_beyond-requires-clause-fits
 first_beyond-requires-clause-fits c =
     let points = c.args.points.now in
-    let n_is : c.dim-n.result ≡ dimension_of points = c.dim-n.ensures.value
-    ∙ dimension_first points c.index-points-0.result c.requires.points.are_points.some c.index-points-0.is in
     let corners = c.loop-beyond.growth.corners in
     let own = c.facets.ensures.solid in
-    corner_facets_fit (dimension_of points) points corners c.facets.result.now c.width_of-width.result (rw n_is at c.dim-n.ensures.least)
+    corner_facets_fit (dimension_of points) points corners c.facets.result.now c.args.width
     c.requires.points.are_points.one_dimension
     (subst (λ (n : ℕ). HaveDimension n corners) c.loop-beyond.invariant.dimension own.sized.are_points.one_dimension)
     (subst (λ (n : ℕ). IsFlat n corners → ⊥) c.loop-beyond.invariant.dimension own.solid) c.loop-beyond.invariant.among
     (subst (λ (n : ℕ). AreFacetsInAnyOrder n corners c.facets.result.now) c.loop-beyond.invariant.dimension c.facets.ensures.facets.members)
-    (rw (c.size_of.ensures, n_is) at c.width_of-width.ensures.serves)
+    c.requires.width
 
 pub offset_bounds-points-beyond : goal.offset_bounds-points-beyond
 offset_bounds-points-beyond c =

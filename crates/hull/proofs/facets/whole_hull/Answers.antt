@@ -5,7 +5,8 @@ use Rattle.lattice_core.specs.PointLists.{AreSizedPoints}
 use Rattle.hull_growth.specs.Grown.{HasFacets}
 use Rattle.hull.specs.steps.Growing.{IsOuter, IsWholeHull}
 use Rattle.hull.specs.steps.Simplex.{IsSimplex}
-use Rattle.hull.proofs.OuterPoints.{outer_sized, outer_simplex, outer_whole}
+use Rattle.hull.specs.steps.Widths.{ServesPoints}
+use Rattle.hull.proofs.OuterPoints.{outer_sized, outer_serves, outer_simplex, outer_whole}
 use Rattle.hull.proofs.facets.whole_hull.Goals as goal
 use Rattle.hull.proofs.facets.whole_hull.Goals.{After-deref-3}
 
@@ -27,6 +28,11 @@ pub grown_hull-requires-clause-simplex : goal.grown_hull-requires-clause-simplex
 grown_hull-requires-clause-simplex c = subst (λ (ps : List (List ℤ)). IsSimplex ps c.in_ok-corners.corners.items) (sym c.deref-3.ensures.value)
     (outer_simplex c.args.points.now c.in_ok-corners.corners.items c.in_ok-outer.outer.items c.in_ok-corners.functions.items c.requires.points
     c.in_ok-corners.ensures.corners (facets c) (outer c))
+
+pub grown_hull-requires-clause-width : goal.grown_hull-requires-clause-width
+grown_hull-requires-clause-width c = subst (λ (ps : List (List ℤ)). ServesPoints ps c.args.width) (sym c.deref-3.ensures.value)
+    (outer_serves c.args.points.now c.in_ok-corners.corners.items c.in_ok-outer.outer.items c.in_ok-corners.functions.items c.requires.points
+    c.in_ok-corners.ensures.corners (facets c) (outer c) c.args.width c.requires.width)
 
 pub returns : goal.returns
 returns c =

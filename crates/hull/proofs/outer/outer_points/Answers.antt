@@ -1,12 +1,10 @@
-use Rattle.std.proofs.Common.{◌≡◌, ◌≤ℤ◌, ℕ, List, ℤ, pos, length, sym, ap, ◌∙◌, subst, take, All, Contains}
+use Rattle.std.proofs.Common.{◌≡◌, ℕ, length, sym, ap, ◌∙◌, subst, All, Contains}
 use Rattle.std.proofs.lemmas.List.{take_all}
 use Rattle.std.proofs.lemmas.List.Elements.{All-contains, All-weaker, All-contains_itself}
-use Rattle.lattice_theory.specs.Affine.{Affine, value}
 use Rattle.lattice_theory.specs.Vector.{HaveDimension}
 use Rattle.lattice_theory.specs.Facet.{IsFlat, AreFacetsInAnyOrder}
 use Rattle.lattice_core.specs.Dimensions.{dimension_of}
 use Rattle.lattice_core.specs.ValueWidths.{FitsWidth}
-use Rattle.lattice_core.proofs.Dimension.{dimension_first}
 use Rattle.hull.proofs.FacetBounds.{corner_facets_fit}
 use Rattle.hull.specs.steps.Growing.{IsOuter}
 use Rattle.hull.proofs.OuterPoints.{outer_first, outer_same, outer_more}
@@ -35,18 +33,16 @@ are_nonnegative-requires-clause-fits c =
     let points = c.args.points.now in
     let corners = c.args.corners.now in
     let functions = c.args.functions.now in
-    let width = c.width_of-width.result in
+    let width = c.args.width in
     let p = c.p-item.result in
-    let n_is : c.dim-n.result ≡ dimension_of points = c.dim-n.ensures.value
-    ∙ dimension_first points c.index-points-0.result c.requires.points.sized.are_points.some c.index-points-0.is in
     let own = c.requires.simplex.solid in
     let same = c.requires.simplex.dimension in
-    let fit = corner_facets_fit (dimension_of points) points corners functions width (rw n_is at c.dim-n.ensures.least)
+    let fit = corner_facets_fit (dimension_of points) points corners functions width
     c.requires.points.sized.are_points.one_dimension
     (subst (λ (n : ℕ). HaveDimension n corners) same own.sized.are_points.one_dimension)
     (subst (λ (n : ℕ). IsFlat n corners → ⊥) same own.solid) c.requires.simplex.among
     (subst (λ (n : ℕ). AreFacetsInAnyOrder n corners functions) same c.requires.facets.members)
-    (rw (c.size_of.ensures, n_is) at c.width_of-width.ensures.serves) in
+    c.requires.width in
     All-weaker (λ f. All (FitsWidth width f) points) (λ f. FitsWidth width f p)
     (λ f all. All-contains (FitsWidth width f) points p all (is_point ((goal.at.are_nonnegative-requires-clause-fits c).After-p-item))) functions fit
 

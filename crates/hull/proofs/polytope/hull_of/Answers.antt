@@ -15,9 +15,9 @@ all_vertices-requires-clause-facets c =
 
 pub returns-then-len-gt-MOST_VERTICES-clause-refused : goal.returns-then-len-gt-MOST_VERTICES-clause-refused
 returns-then-len-gt-MOST_VERTICES-clause-refused c = (
-  c.in_ok-solid.ensures.solid.sized.within,
+  c.in_ok-width.ensures.solid.sized.within,
   record {
-    solid = c.in_ok-solid.ensures.solid.solid;
+    solid = c.in_ok-width.ensures.solid.solid;
     facets = c.in_ok-corners.facets.items;
     are_facets = c.in_ok-corners.ensures.whole;
     few = search rules;
@@ -25,7 +25,7 @@ returns-then-len-gt-MOST_VERTICES-clause-refused c = (
   record {
     vertices = c.in_ok-vertices.vertices.items;
     are_vertices = whole_vertices c.args.points.now c.in_ok-corners.corners.items c.in_ok-corners.facets.items
-        c.in_ok-vertices.vertices.items c.in_ok-solid.ensures.solid c.in_ok-corners.ensures
+        c.in_ok-vertices.vertices.items c.in_ok-width.ensures.solid c.in_ok-corners.ensures
         (subst (λ (cs : List (List ℤ)). AreVertices (dimension_of cs) cs c.in_ok-vertices.vertices.items) c.deref.ensures.value
         c.in_ok-vertices.ensures);
     count = search rules;
@@ -35,10 +35,10 @@ returns-then-len-gt-MOST_VERTICES-clause-refused c = (
 
 pub returns-clause-vertices : goal.returns-clause-vertices
 returns-clause-vertices c = whole_vertices c.args.points.now c.in_ok-corners.corners.items c.in_ok-corners.facets.items
-    c.in_ok-vertices.vertices.items c.in_ok-solid.ensures.solid c.in_ok-corners.ensures
+    c.in_ok-vertices.vertices.items c.in_ok-width.ensures.solid c.in_ok-corners.ensures
     (subst (λ (cs : List (List ℤ)). AreVertices (dimension_of cs) cs c.in_ok-vertices.vertices.items) c.deref.ensures.value
     c.in_ok-vertices.ensures)
 
 pub returns-clause-bounded : goal.returns-clause-bounded
 returns-clause-bounded c = facets_within (dimension_of c.args.points.now) c.args.points.now c.in_ok-corners.facets.items
-    c.requires.points.one_dimension c.in_ok-solid.ensures.solid.solid c.in_ok-corners.ensures.whole
+    c.requires.points.one_dimension c.in_ok-width.ensures.solid.solid c.in_ok-corners.ensures.whole

@@ -54,7 +54,7 @@ farthest-far-requires-clause-fits c =
     let own : c.index.result.now ≡ function_of c.loop-place.functions.items c.loop-place.place = c.index.ensures
     ∙ get_or_default c.loop-place.functions.items c.loop-place.place _ _ (let count = simplex.facing.function_count in omega arith) in
     rw own (simplex_fits n c.loop-place.place points c.loop-place.corners.items c.loop-place.functions.items solid simplex below
-    c.width_of-width.result (rw (c.size_of.ensures, n_is) at c.width_of-width.ensures.serves))
+    c.args.width c.requires.width)
 
 pub farthest-far-requires-clause-somewhere : goal.farthest-far-requires-clause-somewhere
 farthest-far-requires-clause-somewhere c =

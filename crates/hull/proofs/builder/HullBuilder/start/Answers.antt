@@ -13,7 +13,7 @@ new-requires-clause-hull c = subst (λ (ps : List (List ℤ)). HasFacets (dimens
 pub invariant_of-result : goal.invariant_of-result
 invariant_of-result c = built_first c.args.points.now c.in_ok-points.points.items c.in_ok-copied_points.field-0.items
     c.in_ok-_corners.facets.items c.in_ok-growth.growth c.in_ok-points.ensures c.in_ok-copied_points.ensures c.in_ok-growth.ensures.corners
-    c.in_ok-growth.ensures.facets c.in_ok-solid.ensures.solid c.in_ok-_corners.ensures.whole
+    c.in_ok-growth.ensures.facets c.in_ok-width.ensures.solid c.in_ok-_corners.ensures.whole
 
 pub returns-clause-facets : goal.returns-clause-facets
 returns-clause-facets c = subst (HasFacets (dimension_of c.args.points.now) c.args.points.now) (sym c.in_ok-growth.ensures.facets)

@@ -1,5 +1,5 @@
 use Rattle.hull.proofs.SimplexAxes.{IsFarthest}
-use Rattle.hull.proofs.simplex.farthest.Given as goal
+use Rattle.hull.proofs.simplex.narrow_of.Given as goal
 
 abbrev pub invariant-loop-i : goal.invariant-loop-i
 invariant-loop-i l = IsFarthest l.points l.f l.i l.far l.largest
