@@ -1,9 +1,9 @@
 -- Some of the points, as the last few: they are within the size limit as all are, and flat where all are.
-use Rattle.std.proofs.Common.{◌≡◌, ℕ, ◌<◌, List, length, take, drop, length-drop, ℤ, pos, sym, subst, Contains, true, Some, None, arith}
+use Rattle.std.proofs.Common.{◌≡◌, ℕ, ◌<◌, List, length, drop, length-drop, ℤ, pos, sym, subst, Contains, true, Some, None, arith}
 use Rattle.std.specs.Prelude.{◌-◌, Option, MatchOption, is_none}
 use Rattle.std.proofs.lemmas.Bool.{true≢false}
-use Rattle.std.proofs.lemmas.List.{length-take, take-append-drop}
-use Rattle.std.proofs.lemmas.List.Elements.{All-contains, All-weaker, All-contains_itself, Contains-append_left, Contains-append_right}
+use Rattle.std.proofs.lemmas.List.{length-take}
+use Rattle.std.proofs.lemmas.List.Elements.{All-contains, All-weaker, All-contains_itself}
 use Rattle.lattice_theory.specs.Vector.{HaveDimension}
 use Rattle.lattice_theory.specs.Affine.{value}
 use Rattle.lattice_theory.specs.Facet.{IsFlat}
@@ -11,19 +11,10 @@ use Rattle.lattice_core.specs.Dimensions.{dimension_of}
 use Rattle.lattice_core.specs.Limits.{IsSized}
 use Rattle.lattice_core.specs.PointLists.{AreSizedPoints}
 use Rattle.lattice_core.proofs.Dimension.{dimension_is}
+use Rattle.hull_growth.proofs.LastMembers.{last_of}
 use Rattle.hull_growth.proofs.Small.{fewer_sized, fewer_dimension}
 
--- the points from a place on
-abbrev pub last_of : ℕ → List (List ℤ) → List (List ℤ)
-last_of from points = take (length points - from) (drop from points)
-
-pub last_among : (from : ℕ) (points : List (List ℤ)) (p : List ℤ) → Contains (last_of from points) p → Contains points p
-last_among from points p c =
-    subst (λ (ps : List (List ℤ)). Contains ps p) (take-append-drop from points)
-    (Contains-append_right (take from points) (drop from points) p
-    (subst (λ (ps : List (List ℤ)). Contains ps p) (take-append-drop (length points - from) (drop from points))
-    (Contains-append_left (last_of from points) (drop (length points - from) (drop from points)) p c)))
-
+-- the points from a place on, where there are more, are some
 pub last_some : (from : ℕ) (points : List (List ℤ)) → from < length points → 0 < length (last_of from points)
 last_some from points h =
     let d = length-drop from points in

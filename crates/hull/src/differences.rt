@@ -37,7 +37,7 @@ pub(crate) fn kernel_of(points: &[Point]) -> ArrayVec<KernelMember, MOST_COORDIN
     let first = &points[0];
     let mut kernel = kernel_of_none(first.dim());
     for p in &points[1..] {
-        kernel = kernel_with(kernel.as_slice(), point_difference(p, first).as_slice());
+        kernel = kernel_with(kernel, point_difference(p, first).as_slice());
     }
     kernel
 }

@@ -112,18 +112,18 @@ pub(crate) fn changed_kernel(
 
 /// The kernel with one more vector.
 pub(crate) fn kernel_with(
-    kernel: &[KernelMember],
+    kernel: ArrayVec<KernelMember, MOST_COORDINATES>,
     v: &[i64],
 ) -> ArrayVec<KernelMember, MOST_COORDINATES>
-    requires kernel { IsSmallKernel (length v.now) kernel.now }
+    requires kernel { IsSmallKernel (length v.now) kernel.items }
     requires some { 1 ≤ length v.now }
     requires most { length v.now ≤ MOST_COORDINATES }
     requires small { absolute_sum v.now ≤ 2 * size_limit_of (length v.now) }
-    ensures kernel { (vs : List (List ℤ)) → IsPrimitiveKernel (length v.now) vs kernel.now → IsPrimitiveKernel (length v.now) (vs ++ (v.now ∷ [])) result.items }
-    ensures count { (length result.items ≡ length kernel.now) ⊎ (length result.items + 1 ≡ length kernel.now) }
+    ensures kernel { (vs : List (List ℤ)) → IsPrimitiveKernel (length v.now) vs kernel.items → IsPrimitiveKernel (length v.now) (vs ++ (v.now ∷ [])) result.items }
+    ensures count { (length result.items ≡ length kernel.items) ⊎ (length result.items + 1 ≡ length kernel.items) }
 {
-    match changed_kernel(kernel, v) {
+    match changed_kernel(kernel.as_slice(), v) {
         Some(changed) => changed,
-        None => copies(kernel),
+        None => kernel,
     }
 }

@@ -1,3 +1,4 @@
+pub mod LastMembers
 pub mod RowBits
 pub mod RidgeTests
 pub mod Small

@@ -97,15 +97,16 @@ ridge_by_rows n corners fs rows i j f g few h l k a b = (
 pub decided : (P Q T : Type 0) → P ↔ Q → T ↔ P → T ↔ Q
 decided P Q T law told = (λ t. law.0 (told.0 t), λ q. told.1 (law.1 q))
 
--- a function that doesn't vanish at each of the corners at which two others do isn't a third one
-pub not_third : (corners : List (List ℤ)) (fs : List Affine) (i j k : ℕ) (f g h f' g' h' : Affine) → i < length fs → j < length fs
+-- a function that doesn't vanish at each of some corners at which two others do isn't a third one
+pub not_third : (corners part : List (List ℤ)) (fs : List Affine) (i j k : ℕ) (f g h f' g' h' : Affine) → i < length fs → j < length fs
     → k < length fs → f ≡ get_or fs i f → g ≡ get_or fs j g → h ≡ get_or fs k h → f' ≡ get_or fs i f' → g' ≡ get_or fs j g'
     → h' ≡ get_or fs k h'
-    → (All (λ c. value f c ≡ pos 0 → value g c ≡ pos 0 → value h c ≡ pos 0) corners → ⊥) → VanishesWithBoth corners f' g' h' → ⊥
-not_third corners fs i j k f g h f' g' h' l m o a b c a' b' c' none v =
-    none (All-weaker (Contains corners) (λ q. value f q ≡ pos 0 → value g q ≡ pos 0 → value h q ≡ pos 0)
-    (λ q n x y. ap (λ (u : Affine). value u q) (sym eh) ∙ v q n (ap (λ (u : Affine). value u q) ef ∙ x)
-    (ap (λ (u : Affine). value u q) eg ∙ y)) corners (All-contains_itself corners))
+    → ((c : List ℤ) → Contains part c → Contains corners c)
+    → (All (λ c. value f c ≡ pos 0 → value g c ≡ pos 0 → value h c ≡ pos 0) part → ⊥) → VanishesWithBoth corners f' g' h' → ⊥
+not_third corners part fs i j k f g h f' g' h' l m o a b c a' b' c' inside none v =
+    none (All-weaker (Contains part) (λ q. value f q ≡ pos 0 → value g q ≡ pos 0 → value h q ≡ pos 0)
+    (λ q n x y. ap (λ (u : Affine). value u q) (sym eh) ∙ v q (inside q n) (ap (λ (u : Affine). value u q) ef ∙ x)
+    (ap (λ (u : Affine). value u q) eg ∙ y)) part (All-contains_itself part))
   where
     ef : f' ≡ f
     ef = same_at fs i f' f l a' a

@@ -1,8 +1,10 @@
 -- Rows of corners: one corner more, the meet of two rows, and what it tells of a third one.
 use Rattle.std.proofs.Common.{◌≡◌, ◌≢◌, ◌⊎◌, ◌↔◌, inl, inr, ⊎_elim, ℕ, ◌+◌, ◌<◌, ◌≤◌, List, [], ◌∷◌, ◌++◌, length, get_or, take, slice_index_or}
-use Rattle.std.proofs.Common.{ℤ, pos, refl, sym, ap, ◌∙◌, subst, Contains, arith}
+use Rattle.std.proofs.Common.{ℤ, pos, refl, sym, ap, ◌∙◌, subst, All, Contains, drop, length-drop, arith}
+use Rattle.std.specs.Prelude.{◌-◌}
 use Rattle.std.proofs.lemmas.Bool.{cases_lt}
-use Rattle.std.proofs.lemmas.List.{get_or_append_left, get_or_push, get_or_default, length_push, take_more, length-take}
+use Rattle.std.proofs.lemmas.List.{get_or_append_left, get_or_push, get_or_default, get_or-drop, length_push, take_more, length-take}
+use Rattle.std.proofs.lemmas.List.Elements.{All-contains}
 use Rattle.lattice_theory.specs.Affine.{Affine, value}
 use Rattle.lattice_theory.proofs.Integers.{zero_or_not}
 use Rattle.ridge_theory.specs.Ridges.{VanishesWithBoth}
@@ -133,18 +135,50 @@ meet_tells corners f g h x y z few r s t = (there, vanishing_common corners f g 
         ap (value h) (sym at) ∙ (t.corner i l k).0
         (all i ((r.corner i l k).1 (ap (value f) at ∙ a)) ((s.corner i l k).1 (ap (value g) at ∙ b)))
 
+-- with what the rows tell of the first 128 corners, and values of those behind them, the third function vanishes with both
+pub vanishing_whole : (corners : List (List ℤ)) (f g h : Affine) (x y z : ℕ) → IsCornerRow corners f x → IsCornerRow corners g y
+    → IsCornerRow corners h z → HasCommon x y z
+    → All (λ c. value f c ≡ pos 0 → value g c ≡ pos 0 → value h c ≡ pos 0) (drop MOST_INDICES corners) → VanishesWithBoth corners f g h
+vanishing_whole corners f g h x y z r s t all behind c (i, l, is) a b = by (cases_lt i MOST_INDICES)
+  where
+    at : slice_index_or corners i [] ≡ c
+    at = get_or_default corners i [] c l ∙ is
+
+    back : (i : ℕ) → MOST_INDICES ≤ i → MOST_INDICES + (i - MOST_INDICES) ≡ i
+    back i k = omega arith
+
+    by : (i < MOST_INDICES) ⊎ (MOST_INDICES ≤ i) → value h c ≡ pos 0
+    by (inl k) = ap (value h) (sym at) ∙ (t.corner i l k).0
+        (all i ((r.corner i l k).1 (ap (value f) at ∙ a)) ((s.corner i l k).1 (ap (value g) at ∙ b)))
+    by (inr k) = All-contains (λ q. value f q ≡ pos 0 → value g q ≡ pos 0 → value h q ≡ pos 0) (drop MOST_INDICES corners) c behind (
+      i - MOST_INDICES,
+      (let d = length-drop MOST_INDICES corners in omega arith),
+      get_or-drop MOST_INDICES corners (i - MOST_INDICES) c ∙ ap (λ (q : ℕ). get_or corners q c) (back i k) ∙ is,
+    ) a b
+
+-- the row at a place
+row_at : (corners : List (List ℤ)) (functions : List Affine) (rows : List ℕ) (q : ℕ) (u : Affine) → AreCornerRows corners functions rows
+    → q < length functions → u ≡ slice_index_or functions q u → IsCornerRow corners u (slice_index_or rows q 0)
+row_at corners functions rows q u are w e = are.each q u (slice_index_or rows q 0) w e
+    (let s = are.same in get_or_default rows q 0 (slice_index_or rows q 0) (omega arith))
+
 -- the rows at three places
+pub whole_rows : (corners : List (List ℤ)) (functions : List Affine) (rows : List ℕ) (i j k : ℕ) (f g h : Affine)
+    → AreCornerRows corners functions rows → i < length functions → j < length functions → k < length functions
+    → f ≡ slice_index_or functions i f → g ≡ slice_index_or functions j g → h ≡ slice_index_or functions k h
+    → HasCommon (slice_index_or rows i 0) (slice_index_or rows j 0) (slice_index_or rows k 0)
+    → All (λ c. value f c ≡ pos 0 → value g c ≡ pos 0 → value h c ≡ pos 0) (drop MOST_INDICES corners) → VanishesWithBoth corners f g h
+whole_rows corners functions rows i j k f g h are l m o a b c all behind =
+    vanishing_whole corners f g h (slice_index_or rows i 0) (slice_index_or rows j 0) (slice_index_or rows k 0)
+    (row_at corners functions rows i f are l a) (row_at corners functions rows j g are m b) (row_at corners functions rows k h are o c) all behind
+
 pub vanishing_rows : (corners : List (List ℤ)) (functions : List Affine) (rows : List ℕ) (i j k : ℕ) (f g h : Affine)
     → AreCornerRows corners functions rows → i < length functions → j < length functions → k < length functions
     → f ≡ slice_index_or functions i f → g ≡ slice_index_or functions j g → h ≡ slice_index_or functions k h → VanishesWithBoth corners f g h
     → HasCommon (slice_index_or rows i 0) (slice_index_or rows j 0) (slice_index_or rows k 0)
 vanishing_rows corners functions rows i j k f g h are l m o a b c v =
     vanishing_common corners f g h (slice_index_or rows i 0) (slice_index_or rows j 0) (slice_index_or rows k 0)
-    (row i f l a) (row j g m b) (row k h o c) v
-  where
-    row : (q : ℕ) (u : Affine) → q < length functions → u ≡ slice_index_or functions q u → IsCornerRow corners u (slice_index_or rows q 0)
-    row q u w e = are.each q u (slice_index_or rows q 0) w e
-        (let s = are.same in get_or_default rows q 0 (slice_index_or rows q 0) (omega arith))
+    (row_at corners functions rows i f are l a) (row_at corners functions rows j g are m b) (row_at corners functions rows k h are o c) v
 
 -- the meet is part of a third row exactly where this has what both have
 pub part_is_common : (rows : List ℕ) (i j k x y z both : ℕ) → i < length rows → j < length rows → k < length rows → x ≡ get_or rows i x

@@ -7,6 +7,7 @@ ghost use Rattle.lattice_theory.specs.Size.{absolute_sum};
 ghost use Rattle.ridge_theory.specs.Ridges.{IsRidge};
 ghost use Rattle.hull_growth.specs.steps.Rows.{AreCornerRows, NoThirdRow, NoThirdFunction};
 ghost use Rattle.hull_growth.specs.steps.Growing.{IsHeld};
+ghost use Rattle.bit_rows.specs.declared.row.TheConstants.{MOST_INDICES};
 
 use crate::rows::FacetRows;
 use crate::values::vanishes_with_both;
@@ -28,8 +29,8 @@ fn is_alone_by_rows(rows: &[BitRow], i: usize, j: usize) -> bool
     true
 }
 
-/// Whether no third function vanishes at each corner at which the functions at two places do. A row that lacks what both have tells that its
-/// function doesn't.
+/// Whether no third function vanishes at each corner at which the functions at two places do. The rows tell of the first 128 corners, and values
+/// of those behind them.
 fn is_alone_by_values(
     corners: &[Point],
     functions: &[Functional],
@@ -40,17 +41,19 @@ fn is_alone_by_values(
     requires first { i < length functions.now }
     requires second { j < length functions.now }
     requires rows { AreCornerRows corners.now functions.now rows.now }
+    requires many { MOST_INDICES ≤ length corners.now }
     requires dimension { (n : ℕ) × HaveDimension n corners.now × All (λ f. length f.normal ≡ n) functions.now }
     requires small { All (λ c. absolute_sum c ≤ 2 ^ 30) corners.now }
     requires constants { All (λ f. nat_abs f.constant ≤ 2 ^ 100) functions.now }
     ensures { IsTrue result ↔ NoThirdFunction corners.now functions.now i j }
 {
     let both = rows[i].meet(rows[j]);
+    let behind = &corners[MOST_INDICES..];
     for k in 0..functions.len() {
         if both.is_part_of(rows[k])
             && k != i
             && k != j
-            && vanishes_with_both(corners, &functions[i], &functions[j], &functions[k])
+            && vanishes_with_both(behind, &functions[i], &functions[j], &functions[k])
         {
             return false;
         }

@@ -1,4 +1,4 @@
-use Rattle.std.proofs.Common.{◌≡◌, ◌*◌, ◌≤◌, ◌^◌, length, take, sym, ap, ◌∙◌, subst, arith}
+use Rattle.std.proofs.Common.{◌≡◌, ◌*◌, ◌≤◌, ◌^◌, length, take, refl, sym, ap, ◌∙◌, subst, arith}
 use Rattle.std.proofs.lemmas.List.Elements.{All-contains, All-take}
 use Rattle.std.proofs.lemmas.List.{take_all}
 use Rattle.lattice_theory.specs.Size.{absolute_sum}
@@ -10,7 +10,7 @@ use Rattle.hull.proofs.Kernels.{members_entries}
 use Rattle.hull_growth.proofs.Small.{points_small, points_bound}
 use Rattle.hull.proofs.Vectors.{length-difference, absolute_sum-difference, others_of, others_all, others_length, differences_are, small_kernel, next_kernel, first_length, from}
 use Rattle.hull.proofs.differences.kernel_of.Goals as goal
-use Rattle.hull.proofs.differences.kernel_of.Goals.{After-dim, After-as_slice-in-loop-p, After-loop-p}
+use Rattle.hull.proofs.differences.kernel_of.Goals.{After-dim, After-as_slice, After-loop-p}
 
 -- the first point's length
 first_dimension : (c : After-dim) → length c.index-points-0.result ≡ dimension_of c.args.points.now
@@ -31,18 +31,18 @@ point_difference-requires-clause-small_q c =
     c.requires.points.within) (0, c.requires.points.are_points.some, sym c.index-points-0.is)
 
 -- the length of this turn's point
-point_dimension : (c : After-as_slice-in-loop-p) → length c.p-item.result ≡ dimension_of c.args.points.now
+point_dimension : (c : After-as_slice) → length c.p-item.result ≡ dimension_of c.args.points.now
 point_dimension c =
     All-contains (λ p. length p ≡ dimension_of c.args.points.now) (others_of c.args.points.now) c.p-item.result
     (others_all (λ p. length p ≡ dimension_of c.args.points.now) c.args.points.now c.requires.points.are_points.one_dimension)
     (c.loop-p.p-index, c.loop-p-test.true, sym c.p-item.is)
 
 -- its difference
-turn_difference : (c : After-as_slice-in-loop-p) → c.as_slice-in-loop-p.result.now ≡ difference c.p-item.result c.index-points-0.result
-turn_difference c = c.as_slice-in-loop-p.ensures.value ∙ c.point_difference.ensures
+turn_difference : (c : After-as_slice) → c.as_slice.result.now ≡ difference c.p-item.result c.index-points-0.result
+turn_difference c = c.as_slice.ensures.value ∙ c.point_difference.ensures
 
 -- the difference's length
-turn_length : (c : After-as_slice-in-loop-p) → length c.as_slice-in-loop-p.result.now ≡ dimension_of c.args.points.now
+turn_length : (c : After-as_slice) → length c.as_slice.result.now ≡ dimension_of c.args.points.now
 turn_length c =
     let first = first_length (dimension_of c.args.points.now) c.args.points.now c.index-points-0.result
     c.requires.points.are_points.one_dimension c.requires.points.are_points.some c.index-points-0.is in
@@ -55,8 +55,8 @@ kernel_with-kernel-requires-clause-kernel c =
     let first = first_length n c.args.points.now c.index-points-0.result c.requires.points.are_points.one_dimension
     c.requires.points.are_points.some c.index-points-0.is in
     let small = points_small n c.args.points.now c.requires.points.are_points.one_dimension c.requires.points.within in
-    small_kernel n c.index-points-0.result (take c.loop-p.p-index (others_of c.args.points.now)) c.loop-p.kernel.items c.as_slice.result.now
-    c.as_slice-in-loop-p.result.now first
+    small_kernel n c.index-points-0.result (take c.loop-p.p-index (others_of c.args.points.now)) c.loop-p.kernel.items c.loop-p.kernel.items
+    c.as_slice.result.now first
     (All-contains (λ p. absolute_sum p ≤ size_limit_of n) c.args.points.now c.index-points-0.result small (
       0,
       c.requires.points.are_points.some,
@@ -67,7 +67,7 @@ kernel_with-kernel-requires-clause-kernel c =
     (All-take (λ p. absolute_sum p ≤ size_limit_of n) c.loop-p.p-index (others_of c.args.points.now)
     (others_all (λ p. absolute_sum p ≤ size_limit_of n) c.args.points.now small))
     (subst (λ m. IsPrimitiveKernel m (from c.index-points-0.result (take c.loop-p.p-index (others_of c.args.points.now)))
-    c.loop-p.kernel.items) first c.loop-p.invariant.kernel) c.as_slice.ensures.value (turn_length c)
+    c.loop-p.kernel.items) first c.loop-p.invariant.kernel) refl (turn_length c)
 
 pub kernel_with-kernel-requires-clause-some : goal.kernel_with-kernel-requires-clause-some
 kernel_with-kernel-requires-clause-some c = let l = turn_length c in
@@ -79,7 +79,7 @@ kernel_with-kernel-requires-clause-small c =
     let first = first_length n c.args.points.now c.index-points-0.result c.requires.points.are_points.one_dimension
     c.requires.points.are_points.some c.index-points-0.is in
     let small = points_small n c.args.points.now c.requires.points.are_points.one_dimension c.requires.points.within in
-    subst (λ m. absolute_sum c.as_slice-in-loop-p.result.now ≤ 2 * size_limit_of m) (sym (turn_length c))
+    subst (λ m. absolute_sum c.as_slice.result.now ≤ 2 * size_limit_of m) (sym (turn_length c))
     (rw (turn_difference c) (absolute_sum-difference c.p-item.result c.index-points-0.result (size_limit_of n)
     (point_dimension c ∙ sym first)
     (All-contains (λ p. absolute_sum p ≤ size_limit_of n) (others_of c.args.points.now) c.p-item.result
@@ -96,16 +96,14 @@ kernel_with-kernel-requires-clause-small c =
 
 pub loop-p-preserved : goal.loop-p-preserved
 loop-p-preserved c =
-    let at = (goal.at.loop-p-preserved c).After-as_slice-in-loop-p in
+    let at = (goal.at.loop-p-preserved c).After-as_slice in
     let first = first_length (dimension_of c.args.points.now) c.args.points.now c.index-points-0.result
     c.requires.points.are_points.one_dimension c.requires.points.are_points.some c.index-points-0.is in
-    let same = c.as_slice.ensures.value in
     let count = c.kernel_with-kernel.ensures.count in
-    let length_same = ap length same in
     record {
       kernel = next_kernel (length c.index-points-0.result) c.index-points-0.result (others_of c.args.points.now) c.loop-p.p-index
-          c.p-item.result c.as_slice-in-loop-p.result.now c.loop-p.kernel.items c.as_slice.result.now c.kernel_with-kernel.result.items
-          c.loop-p-test.true c.p-item.is (turn_difference at) (turn_length at ∙ sym first) same
+          c.p-item.result c.as_slice.result.now c.loop-p.kernel.items c.loop-p.kernel.items c.kernel_with-kernel.result.items
+          c.loop-p-test.true c.p-item.is (turn_difference at) (turn_length at ∙ sym first) refl
           c.kernel_with-kernel.ensures.kernel c.loop-p.invariant.kernel;
       count = omega (arith, count);
     }

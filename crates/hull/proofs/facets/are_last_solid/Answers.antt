@@ -1,6 +1,7 @@
 use Rattle.std.proofs.Common.{◌≡◌, ◌<◌, length, true, rules, arith}
 use Rattle.std.specs.Prelude.{is_none}
-use Rattle.hull.proofs.LastPoints.{last_of, last_among, last_some, of_none, fewer_sized_points, fewer_solid}
+use Rattle.hull_growth.proofs.LastMembers.{last_of, last_among}
+use Rattle.hull.proofs.LastPoints.{last_some, of_none, fewer_sized_points, fewer_solid}
 use Rattle.hull.proofs.facets.are_last_solid.Goals as goal
 
 pub flat_function-requires : goal.flat_function-requires
