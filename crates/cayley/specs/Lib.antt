@@ -1,0 +1,2 @@
+pub use Rattle.dual_pair.specs.Pairs
+pub mod Limits

@@ -1,0 +1,26 @@
+//! Limits of a triangle.
+use crate::{rank_limits, scan_limits};
+use dual_pair::{DualPair, Kind, Polytope};
+use lattice_core::{Fault, LimitName, Point, Refusal};
+use std::test::Fail;
+
+#[test]
+fn lets_one_part_of_a_triangle_pass_and_not_two(rt: HostRuntime) -> Result<(), Fail> {
+    let points = [
+        Point::new(&[1, 0]).expect(&rt, "two entries"),
+        Point::new(&[0, 1]).expect(&rt, "two entries"),
+        Point::new(&[-1, -1]).expect(&rt, "two entries"),
+    ];
+    let Kind::Reflexive(pair) = DualPair::of(rt.alloc(), Polytope::of(rt.alloc(), &points)?)? else {
+        return Err(Fail::new("reflexive"));
+    };
+    assert_eq!(rt; rank_limits(&pair, 1), Ok(()));
+    assert_eq!(rt; scan_limits(rt.alloc(), &pair, 1), Ok(()));
+    assert_eq!(rt;
+        rank_limits(&pair, 2),
+        Err(Refusal::Limit(LimitName::Codim, 2))
+    );
+    let told = Fault::Refused(Refusal::Limit(LimitName::Codim, 2));
+    assert_eq!(rt; scan_limits(rt.alloc(), &pair, 2), Err(told));
+    Ok(())
+}
