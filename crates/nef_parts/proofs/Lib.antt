@@ -1,0 +1,4 @@
+pub mod Pushing
+pub mod RowSteps
+pub mod MaskSteps
+pub mod PairFacts
