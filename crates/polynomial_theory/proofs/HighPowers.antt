@@ -15,13 +15,15 @@ power_ends r p zero (inr h) = absurd (omega arith)
 power_ends r p (suc q) h = refl
 
 -- one term of A(u^s v) f, where A's degree and f's ends leave nothing
-no_term : (A : Series) (f : LaurentSeries) (k m n : ℕ) (x : ℤ) (a b : ℕ) → HasDegreeAtMost k A → HasNoPowerAbove m n f → (a ≤ k → (pos m <ℤ x) ⊎ (n < b)) → (k < a) ⊎ (a ≤ k) → A a *ℤ f x b ≡ pos 0
+no_term : (A : Series) (f : LaurentSeries) (k m n : ℕ) (x : ℤ) (a b : ℕ) → HasDegreeAtMost k A → HasNoPowerAbove m n f → (a ≤ k
+    → (pos m <ℤ x) ⊎ (n < b)) → (k < a) ⊎ (a ≤ k) → A a *ℤ f x b ≡ pos 0
 no_term A f k m n x a b d h out (inl l) = ap (λ (z : ℤ). z *ℤ f x b) (d a l) ∙ zero-*ℤ (f x b)
 no_term A f k m n x a b d h out (inr l) = ap (λ (z : ℤ). A a *ℤ z) (h x b (out l)) ∙ *ℤ-zero (A a)
 
 -- A(uv) raises both ends
 pub product_ends : (k m n : ℕ) (A : Series) (f : LaurentSeries) → HasDegreeAtMost k A → HasNoPowerAbove m n f → HasNoPowerAbove (m + k) (n + k) (times_at_product A f)
-product_ends k m n A f d h p q out = splits_none q (λ a b. A a *ℤ f (p -ℤ pos 1 *ℤ pos a) b) (λ a b e. no_term A f k m n (p -ℤ pos 1 *ℤ pos a) a b d h (λ l. still p q a b e l out) (large_or_not k a))
+product_ends k m n A f d h p q out = splits_none q (λ a b. A a *ℤ f (p -ℤ pos 1 *ℤ pos a) b)
+    (λ a b e. no_term A f k m n (p -ℤ pos 1 *ℤ pos a) a b d h (λ l. still p q a b e l out) (large_or_not k a))
   where
     still : (p : ℤ) (q a b : ℕ) → a + b ≡ q → a ≤ k → (pos (m + k) <ℤ p) ⊎ (n + k < q) → (pos m <ℤ (p -ℤ pos 1 *ℤ pos a)) ⊎ (n < b)
     still p q a b e l (inl g) = inl (rw (one-*ℤ (pos a)) (omega (arith, linear)))
@@ -29,7 +31,8 @@ product_ends k m n A f d h p q out = splits_none q (λ a b. A a *ℤ f (p -ℤ p
 
 -- A(v/u) raises that of v
 pub ratio_ends : (k m n : ℕ) (A : Series) (f : LaurentSeries) → HasDegreeAtMost k A → HasNoPowerAbove m n f → HasNoPowerAbove m (n + k) (times_at_ratio A f)
-ratio_ends k m n A f d h p q out = splits_none q (λ a b. A a *ℤ f (p -ℤ negsuc 0 *ℤ pos a) b) (λ a b e. no_term A f k m n (p -ℤ negsuc 0 *ℤ pos a) a b d h (λ l. still p q a b e l out) (large_or_not k a))
+ratio_ends k m n A f d h p q out = splits_none q (λ a b. A a *ℤ f (p -ℤ negsuc 0 *ℤ pos a) b)
+    (λ a b e. no_term A f k m n (p -ℤ negsuc 0 *ℤ pos a) a b d h (λ l. still p q a b e l out) (large_or_not k a))
   where
     still : (p : ℤ) (q a b : ℕ) → a + b ≡ q → a ≤ k → (pos m <ℤ p) ⊎ (n + k < q) → (pos m <ℤ (p -ℤ negsuc 0 *ℤ pos a)) ⊎ (n < b)
     still p q a b e l (inl g) = inl (rw (minus_one-*ℤ (pos a)) (omega (arith, linear)))

@@ -54,8 +54,11 @@ kept_same : (c : Bool) (a b : ℤ) → (c ≡ true → a ≡ b) → kept c a ≡
 kept_same true a b h = h refl
 kept_same false a b h = refl
 
-pub sum_filter_same : {X : Type 0} (test : X → Bool) (xs : List X) (f g : X → ℤ) → ((x : X) → In x xs → test x ≡ true → f x ≡ g x) → sum_over (filter test xs) f ≡ sum_over (filter test xs) g
-sum_filter_same test xs f g h = sum_filter test xs f ∙ sum_same_in xs (λ x. kept (test x) (f x)) (λ x. kept (test x) (g x)) (λ x i. kept_same (test x) (f x) (g x) (h x i)) ∙ sym (sum_filter test xs g)
+pub sum_filter_same : {X : Type 0} (test : X → Bool) (xs : List X) (f g : X → ℤ) → ((x : X) → In x xs → test x ≡ true → f x ≡ g x)
+    → sum_over (filter test xs) f ≡ sum_over (filter test xs) g
+sum_filter_same test xs f g h = sum_filter test xs f
+    ∙ sum_same_in xs (λ x. kept (test x) (f x)) (λ x. kept (test x) (g x)) (λ x i. kept_same (test x) (f x) (g x) (h x i))
+    ∙ sym (sum_filter test xs g)
 
 -- a test in front of a sum
 pub sum_kept : {X : Type 0} (c : Bool) (xs : List X) (f : X → ℤ) → sum_over xs (λ x. kept c (f x)) ≡ kept c (sum_over xs f)

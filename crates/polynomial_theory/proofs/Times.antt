@@ -69,7 +69,8 @@ times_scaled s A k f p q = splits_same q (λ a b. A a *ℤ (k *ℤ f (p -ℤ s *
 pub times_none : (s : ℤ) (A : Series) (p : ℤ) (q : ℕ) → times s A (λ p q. pos 0) p q ≡ pos 0
 times_none s A p q = times_scaled s A (pos 0) (λ p q. pos 0) p q ∙ simp products_out
 
-pub times_sum : {X : Type 0} (s : ℤ) (A : Series) (xs : List X) (f : X → LaurentSeries) (p : ℤ) (q : ℕ) → times s A (λ p q. sum_over xs (λ x. f x p q)) p q ≡ sum_over xs (λ x. times s A (f x) p q)
+pub times_sum : {X : Type 0} (s : ℤ) (A : Series) (xs : List X) (f : X → LaurentSeries) (p : ℤ) (q : ℕ)
+    → times s A (λ p q. sum_over xs (λ x. f x p q)) p q ≡ sum_over xs (λ x. times s A (f x) p q)
 times_sum s A [] f p q = times_none s A p q
 times_sum s A (x ∷ xs) f p q = times_add s A (f x) (λ p q. sum_over xs (λ x. f x p q)) p q ∙ ap (λ (z : ℤ). times s A (f x) p q +ℤ z) (times_sum s A xs f p q)
 
@@ -91,14 +92,16 @@ times_scaled_left s k A f p q = splits_same q (λ a b. (k *ℤ A a) *ℤ f (p -�
 pub times_none_left : (s : ℤ) (f : LaurentSeries) (p : ℤ) (q : ℕ) → times s (λ k. pos 0) f p q ≡ pos 0
 times_none_left s f p q = times_scaled_left s (pos 0) (λ k. pos 0) f p q ∙ simp products_out
 
-pub times_sum_left : {X : Type 0} (s : ℤ) (xs : List X) (A : X → Series) (f : LaurentSeries) (p : ℤ) (q : ℕ) → times s (λ k. sum_over xs (λ x. A x k)) f p q ≡ sum_over xs (λ x. times s (A x) f p q)
+pub times_sum_left : {X : Type 0} (s : ℤ) (xs : List X) (A : X → Series) (f : LaurentSeries) (p : ℤ) (q : ℕ)
+    → times s (λ k. sum_over xs (λ x. A x k)) f p q ≡ sum_over xs (λ x. times s (A x) f p q)
 times_sum_left s [] A f p q = times_none_left s f p q
 times_sum_left s (x ∷ xs) A f p q = times_add_left s (A x) (λ k. sum_over xs (λ x. A x k)) f p q ∙ ap (λ (z : ℤ). times s (A x) f p q +ℤ z) (times_sum_left s xs A f p q)
 
 -- what multiplies exchanges with u^t v
 pub times_shift : (s t : ℤ) (A : Series) (f : LaurentSeries) (p : ℤ) (q : ℕ) → times s A (shift t f) p q ≡ shift t (times s A f) p q
 times_shift s t A f p zero = times_zero s A (shift t f) p ∙ simp products_out
-times_shift s t A f p (suc zero) = let e = times_suc s A (shift t f) p 0 in let e' = times_shift s t (rest A) f (p -ℤ s) zero in let e'' = times_zero s A f (p -ℤ t) in omega (arith, linear)
+times_shift s t A f p (suc zero) = let e = times_suc s A (shift t f) p 0 in let e' = times_shift s t (rest A) f (p -ℤ s) zero in
+    let e'' = times_zero s A f (p -ℤ t) in omega (arith, linear)
 times_shift s t A f p (suc (suc q)) = let e = times_suc s A (shift t f) p (suc q) in let e' = times_shift s t (rest A) f (p -ℤ s) (suc q)
     in let e'' = times_suc s A f (p -ℤ t) q in let e''' = ap (λ (x : ℤ). times s (rest A) f x q) (places_exchange p s t) in omega (arith, linear)
 

@@ -28,7 +28,8 @@ one_more : (k : ℕ) (l : Series) (i : ℕ) → alternating (suc k) l i ≡ diff
 one_more k l zero = ap (λ (c : ℕ). sign 0 *ℤ (pos c *ℤ l 0)) (sym (choose_none k))
 one_more k l (suc i) = let e = splits_last i (λ s j. sign j *ℤ (pos (choose (suc k) j) *ℤ l s))
     in let e' = splits_last i (λ s j. sign j *ℤ (pos (choose k j) *ℤ l s))
-    in let e1 = splits_same i (λ s j. sign (suc j) *ℤ (pos (choose (suc k) (suc j)) *ℤ l s)) (λ s j. negsuc 0 *ℤ (sign j *ℤ (pos (choose k j) *ℤ l s)) +ℤ sign (suc j) *ℤ (pos (choose k (suc j)) *ℤ l s))
+    in let e1 = splits_same i (λ s j. sign (suc j) *ℤ (pos (choose (suc k) (suc j)) *ℤ l s))
+    (λ s j. negsuc 0 *ℤ (sign j *ℤ (pos (choose k j) *ℤ l s)) +ℤ sign (suc j) *ℤ (pos (choose k (suc j)) *ℤ l s))
     (λ s j. pascal (sign j) (pos (choose k j)) (pos (choose k (suc j))) (pos (choose (suc k) (suc j))) (l s) (omega (arith, linear)))
     in let e2 = splits_add i (λ s j. negsuc 0 *ℤ (sign j *ℤ (pos (choose k j) *ℤ l s))) (λ s j. sign (suc j) *ℤ (pos (choose k (suc j)) *ℤ l s))
     in let e3 = splits_scaled (negsuc 0) i (λ s j. sign j *ℤ (pos (choose k j) *ℤ l s))
@@ -64,7 +65,9 @@ doubled k m = rw pow-succ' (omega arith)
 pub differences_bound : (k m : ℕ) (l : Series) → ((s : ℕ) → nat_abs (l s) ≤ m) → (i : ℕ) → nat_abs (differences_of k l i) ≤ 2 ^ k * m
 differences_bound zero m l h i = let e = h i in omega (arith)
 differences_bound (suc k) m l h zero = let e = differences_bound k m l h 0 in let e' = doubled k m in omega (arith)
-differences_bound (suc k) m l h (suc i) = let e = difference_bound (differences_of k l (suc i)) (differences_of k l i) (2 ^ k * m) (differences_bound k m l h (suc i)) (differences_bound k m l h i) in let e' = doubled k m in omega (arith)
+differences_bound (suc k) m l h (suc i) =
+    let e = difference_bound (differences_of k l (suc i)) (differences_of k l i) (2 ^ k * m) (differences_bound k m l h (suc i))
+    (differences_bound k m l h i) in let e' = doubled k m in omega (arith)
 
 -- numbers that aren't negative: one doubling less
 first_difference : (a b : ℤ) (m : ℕ) → pos 0 ≤ℤ a → pos 0 ≤ℤ b → nat_abs a ≤ m → nat_abs b ≤ m → nat_abs (a -ℤ b) ≤ m
@@ -76,4 +79,6 @@ pub counts_bound : (k m : ℕ) (l : Series) → ((s : ℕ) → pos 0 ≤ℤ l s)
 counts_bound zero m l p h zero = let e = h 0 in omega arith
 counts_bound zero m l p h (suc i) = let e = first_difference (l (suc i)) (l i) m (p (suc i)) (p i) (h (suc i)) (h i) in omega arith
 counts_bound (suc k) m l p h zero = let e = counts_bound k m l p h 0 in let e' = doubled k m in omega arith
-counts_bound (suc k) m l p h (suc i) = let e = difference_bound (differences_of (suc k) l (suc i)) (differences_of (suc k) l i) (2 ^ k * m) (counts_bound k m l p h (suc i)) (counts_bound k m l p h i) in let e' = doubled k m in omega arith
+counts_bound (suc k) m l p h (suc i) =
+    let e = difference_bound (differences_of (suc k) l (suc i)) (differences_of (suc k) l i) (2 ^ k * m) (counts_bound k m l p h (suc i))
+    (counts_bound k m l p h i) in let e' = doubled k m in omega arith

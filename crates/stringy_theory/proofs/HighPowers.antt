@@ -11,10 +11,12 @@ use Rattle.polynomial_theory.proofs.Sums.{sum_zero, sum_same_in, sum_filter_same
 use Rattle.polynomial_theory.proofs.HighPowers.{power_ends, product_ends, ratio_ends, ends_larger}
 
 pub numerator_ends : {X : Type 0} (d : FaceSeries X) → IsRanked d → HaveSmallDegrees d → (top : ℕ) → HaveSmallDualDegrees top d → HasNoPowerAbove top top (numerator d)
-numerator_ends {X = X} d ranked small top dual p q out = sum_same_in d.faces (λ f. sum_over (faces_to d f) (λ x. sum_over (faces_from d f) (λ y. sign (d.rank y - d.rank x) *ℤ term x f y p q))) (λ f. pos 0)
+numerator_ends {X = X} d ranked small top dual p q out = sum_same_in d.faces (λ f. sum_over (faces_to d f) (λ x. sum_over (faces_from d f)
+    (λ y. sign (d.rank y - d.rank x) *ℤ term x f y p q))) (λ f. pos 0)
     (λ f j. sum_filter_same (λ x. d.below x f) d.faces (λ x. sum_over (faces_from d f) (λ y. sign (d.rank y - d.rank x) *ℤ term x f y p q)) (λ x. pos 0)
     (λ x i t. sum_filter_same (d.below f) d.faces (λ y. sign (d.rank y - d.rank x) *ℤ term x f y p q) (λ y. pos 0)
-    (λ y l t'. ap (λ (z : ℤ). sign (d.rank y - d.rank x) *ℤ z) (ends x f y (contains_from_in i) (contains_from_in j) (contains_from_in l) t t' p q out) ∙ *ℤ-zero (sign (d.rank y - d.rank x)))
+    (λ y l t'. ap (λ (z : ℤ). sign (d.rank y - d.rank x) *ℤ z) (ends x f y (contains_from_in i) (contains_from_in j)
+    (contains_from_in l) t t' p q out) ∙ *ℤ-zero (sign (d.rank y - d.rank x)))
     ∙ sum_zero (faces_from d f) (λ y. pos 0) (λ y. refl))
     ∙ sum_zero (faces_to d f) (λ x. pos 0) (λ x. refl))
     ∙ sum_zero d.faces (λ f. pos 0) (λ f. refl)

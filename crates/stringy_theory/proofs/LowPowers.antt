@@ -31,7 +31,8 @@ b_starts {X = X} d ranked small x y i p q l = sum_filter (λ f. d.below f y) (fa
     part f = times_at_ratio (d.g x f) (times_at_product (d.g_dual f y) (power_of_minus_u (d.rank f)))
 
     starts : (f : X) → Contains d.faces f → d.below x f ≡ true → part f p q ≡ pos 0
-    starts f j t = starts_lower (pos (d.rank f) -ℤ pos (d.rank f - d.rank x)) (pos 0) (part f) (weaker (pos (d.rank f) -ℤ pos (d.rank f - d.rank x)) (pos (d.rank x)) (enough (d.rank x) (d.rank f) (ranked.rises x f i j t)) (omega (arith, linear)))
+    starts f j t = starts_lower (pos (d.rank f) -ℤ pos (d.rank f - d.rank x)) (pos 0) (part f) (weaker (pos (d.rank f) -ℤ pos (d.rank f - d.rank x))
+        (pos (d.rank x)) (enough (d.rank x) (d.rank f) (ranked.rises x f i j t)) (omega (arith, linear)))
         (ratio_starts (pos (d.rank f)) (d.rank f - d.rank x) (d.g x f) (times_at_product (d.g_dual f y) (power_of_minus_u (d.rank f))) (small.intervals x f i j t)
         (product_starts (pos (d.rank f)) (d.g_dual f y) (power_of_minus_u (d.rank f)) (power_starts (d.rank f)))) p q l
 
@@ -45,9 +46,12 @@ b_starts {X = X} d ranked small x y i p q l = sum_filter (λ f. d.below f y) (fa
     none f j (inr t) = cond-false (d.below x f) (kept (d.below f y) (part f p q)) (pos 0) t
 
 pub numerator_starts : {X : Type 0} (d : FaceSeries X) → IsRanked d → HaveSmallDegrees d → HasNoPowerBelow (pos 0) (numerator d)
-numerator_starts {X = X} d ranked small p q l = sum_same_in d.faces (λ f. sum_over (faces_to d f) (λ x. sum_over (faces_from d f) (λ y. sign (d.rank y - d.rank x) *ℤ term x f y p q))) (λ f. pos 0)
+numerator_starts {X = X} d ranked small p q l = sum_same_in d.faces (λ f. sum_over (faces_to d f) (λ x. sum_over (faces_from d f)
+    (λ y. sign (d.rank y - d.rank x) *ℤ term x f y p q))) (λ f. pos 0)
     (λ f j. sum_filter_same (λ x. d.below x f) d.faces (λ x. sum_over (faces_from d f) (λ y. sign (d.rank y - d.rank x) *ℤ term x f y p q)) (λ x. pos 0)
-    (λ x i t. sum_zero (faces_from d f) (λ y. sign (d.rank y - d.rank x) *ℤ term x f y p q) (λ y. ap (λ (z : ℤ). sign (d.rank y - d.rank x) *ℤ z) (starts x f y (contains_from_in i) (contains_from_in j) t p q l) ∙ *ℤ-zero (sign (d.rank y - d.rank x))))
+    (λ x i t. sum_zero (faces_from d f) (λ y. sign (d.rank y - d.rank x) *ℤ term x f y p q) (λ y. ap
+    (λ (z : ℤ). sign (d.rank y - d.rank x) *ℤ z) (starts x f y (contains_from_in i) (contains_from_in j) t p q l)
+    ∙ *ℤ-zero (sign (d.rank y - d.rank x))))
     ∙ sum_zero (faces_to d f) (λ x. pos 0) (λ x. refl))
     ∙ sum_zero d.faces (λ f. pos 0) (λ f. refl)
   where
@@ -56,7 +60,9 @@ numerator_starts {X = X} d ranked small p q l = sum_same_in d.faces (λ f. sum_o
 
     starts : (x f y : X) → Contains d.faces x → Contains d.faces f → d.below x f ≡ true → HasNoPowerBelow (pos 0) (term x f y)
     starts x f y i j t = starts_lower ((pos (d.rank f) -ℤ pos (d.rank f - d.rank x)) -ℤ pos (d.rank x)) (pos 0) (term x f y) (enough (d.rank x) (d.rank f) (ranked.rises x f i j t))
-        (ratio_starts (pos (d.rank f) -ℤ pos (d.rank f - d.rank x)) (d.rank x) (d.h x) (times_at_ratio (d.g x f) (times_at_product (d.h_dual y) (times_at_product (d.g_dual f y) (power_of_minus_u (d.rank f))))) (small.counts x i)
-        (ratio_starts (pos (d.rank f)) (d.rank f - d.rank x) (d.g x f) (times_at_product (d.h_dual y) (times_at_product (d.g_dual f y) (power_of_minus_u (d.rank f)))) (small.intervals x f i j t)
+        (ratio_starts (pos (d.rank f) -ℤ pos (d.rank f - d.rank x)) (d.rank x) (d.h x) (times_at_ratio (d.g x f) (times_at_product (d.h_dual y)
+        (times_at_product (d.g_dual f y) (power_of_minus_u (d.rank f))))) (small.counts x i)
+        (ratio_starts (pos (d.rank f)) (d.rank f - d.rank x) (d.g x f) (times_at_product (d.h_dual y) (times_at_product (d.g_dual f y)
+        (power_of_minus_u (d.rank f)))) (small.intervals x f i j t)
         (product_starts (pos (d.rank f)) (d.h_dual y) (times_at_product (d.g_dual f y) (power_of_minus_u (d.rank f)))
         (product_starts (pos (d.rank f)) (d.g_dual f y) (power_of_minus_u (d.rank f)) (power_starts (d.rank f))))))

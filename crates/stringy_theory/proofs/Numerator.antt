@@ -22,9 +22,11 @@ kept_through false b false z h = refl
 pub regroup : {X : Type 0} (d : FaceSeries X) → IsRanked d → (w : X → X → X → ℤ)
     → sum_over d.faces (λ x. sum_over (faces_from d x) (λ y. sum_over (faces_between d x y) (λ f. w x f y)))
     ≡ sum_over d.faces (λ f. sum_over (faces_to d f) (λ x. sum_over (faces_from d f) (λ y. w x f y)))
-regroup {X = X} d ranked w = sum_same_in d.faces (λ x. sum_over (faces_from d x) (λ y. sum_over (faces_between d x y) (λ f. w x f y))) (λ x. sum_over d.faces (λ f. sum_over d.faces (λ y. both x f y))) by_pairs
+regroup {X = X} d ranked w = sum_same_in d.faces (λ x. sum_over (faces_from d x) (λ y. sum_over (faces_between d x y) (λ f. w x f y)))
+    (λ x. sum_over d.faces (λ f. sum_over d.faces (λ y. both x f y))) by_pairs
     ∙ sum_exchange d.faces d.faces (λ x f. sum_over d.faces (λ y. both x f y))
-    ∙ sym (sum_same d.faces (λ f. sum_over (faces_to d f) (λ x. sum_over (faces_from d f) (λ y. w x f y))) (λ f. sum_over d.faces (λ x. sum_over d.faces (λ y. both x f y))) by_faces)
+    ∙ sym (sum_same d.faces (λ f. sum_over (faces_to d f) (λ x. sum_over (faces_from d f) (λ y. w x f y))) (λ f. sum_over d.faces
+    (λ x. sum_over d.faces (λ y. both x f y))) by_faces)
   where
     both : X → X → X → ℤ
     both x f y = kept (d.below x f) (kept (d.below f y) (w x f y))
@@ -57,7 +59,8 @@ module _ {X : Type 0} (d : FaceSeries X) where
 
   pair_terms : (x y : X) (p : ℤ) (q : ℕ) → times_at_ratio (d.h x) (times_at_product (d.h_dual y) (b d x y)) p q ≡ sum_over (faces_between d x y) (λ f. term x f y p q)
   unfolding low term
-  pair_terms x y p q = times_same (negsuc 0) (d.h x) (times_at_product (d.h_dual y) (b d x y)) (λ p q. sum_over (faces_between d x y) (λ f. times_at_product (d.h_dual y) (times_at_ratio (d.g x f) (low f y)) p q))
+  pair_terms x y p q = times_same (negsuc 0) (d.h x) (times_at_product (d.h_dual y) (b d x y)) (λ p q. sum_over (faces_between d x y)
+      (λ f. times_at_product (d.h_dual y) (times_at_ratio (d.g x f) (low f y)) p q))
       (λ p q. times_sum (pos 1) (d.h_dual y) (faces_between d x y) (λ f. times_at_ratio (d.g x f) (low f y)) p q) p q
       ∙ times_sum (negsuc 0) (d.h x) (faces_between d x y) (λ f. times_at_product (d.h_dual y) (times_at_ratio (d.g x f) (low f y))) p q
       ∙ sum_same (faces_between d x y) (λ f. times_at_ratio (d.h x) (times_at_product (d.h_dual y) (times_at_ratio (d.g x f) (low f y))) p q) (λ f. term x f y p q)
@@ -80,7 +83,9 @@ module _ {X : Type 0} (d : FaceSeries X) where
   signs : IsRanked d → (x f y : X) (z : ℤ) → In x d.faces → In f d.faces → In y d.faces → d.below x f ≡ true → d.below f y ≡ true
       → sign (d.rank f - d.rank x) *ℤ (sign (d.rank y - d.rank f) *ℤ z) ≡ sign (d.rank y - d.rank x) *ℤ z
   signs ranked x f y z ix jf jy h k = sym (*ℤ_assoc (sign (d.rank f - d.rank x)) (sign (d.rank y - d.rank f)) z)
-      ∙ ap (λ (s : ℤ). s *ℤ z) (sign_product (d.rank f - d.rank x) (d.rank y - d.rank f) ∙ ap sign (gaps (d.rank x) (d.rank f) (d.rank y) (ranked.rises x f (contains_from_in ix) (contains_from_in jf) h) (ranked.rises f y (contains_from_in jf) (contains_from_in jy) k)))
+      ∙ ap (λ (s : ℤ). s *ℤ z) (sign_product (d.rank f - d.rank x) (d.rank y - d.rank f)
+      ∙ ap sign (gaps (d.rank x) (d.rank f) (d.rank y) (ranked.rises x f (contains_from_in ix) (contains_from_in jf) h) (ranked.rises f y
+      (contains_from_in jf) (contains_from_in jy) k)))
     where
       gaps : (a b c : ℕ) → a ≤ b → b ≤ c → (b - a) + (c - b) ≡ c - a
       gaps a b c h k = omega arith
@@ -92,10 +97,14 @@ module _ {X : Type 0} (d : FaceSeries X) where
   unfolding low above
   above_terms f p q = times_combination_left (pos 1) (faces_from d f) (λ y. sign (d.rank y - d.rank f)) d.h_dual (d.g_dual f) (power_of_minus_u (d.rank f)) p q
 
-  inner_terms : (x f : X) (p : ℤ) (q : ℕ) → times_at_ratio (d.h x) (times_at_ratio (d.g x f) (above f)) p q ≡ sum_over (faces_from d f) (λ y. sign (d.rank y - d.rank f) *ℤ term x f y p q)
+  inner_terms : (x f : X) (p : ℤ) (q : ℕ)
+      → times_at_ratio (d.h x) (times_at_ratio (d.g x f) (above f)) p q ≡ sum_over (faces_from d f)
+      (λ y. sign (d.rank y - d.rank f) *ℤ term x f y p q)
   unfolding term
-  inner_terms x f p q = times_same (negsuc 0) (d.h x) (times_at_ratio (d.g x f) (above f)) (λ p q. sum_over (faces_from d f) (λ y. sign (d.rank y - d.rank f) *ℤ times_at_ratio (d.g x f) (times_at_product (d.h_dual y) (low f y)) p q))
-      (λ p q. times_same (negsuc 0) (d.g x f) (above f) (λ p q. sum_over (faces_from d f) (λ y. sign (d.rank y - d.rank f) *ℤ times_at_product (d.h_dual y) (low f y) p q)) (above_terms f) p q
+  inner_terms x f p q = times_same (negsuc 0) (d.h x) (times_at_ratio (d.g x f) (above f)) (λ p q. sum_over (faces_from d f)
+      (λ y. sign (d.rank y - d.rank f) *ℤ times_at_ratio (d.g x f) (times_at_product (d.h_dual y) (low f y)) p q))
+      (λ p q. times_same (negsuc 0) (d.g x f) (above f) (λ p q. sum_over (faces_from d f)
+      (λ y. sign (d.rank y - d.rank f) *ℤ times_at_product (d.h_dual y) (low f y) p q)) (above_terms f) p q
       ∙ times_combination (negsuc 0) (d.g x f) (faces_from d f) (λ y. sign (d.rank y - d.rank f)) (λ y. times_at_product (d.h_dual y) (low f y)) p q) p q
       ∙ times_combination (negsuc 0) (d.h x) (faces_from d f) (λ y. sign (d.rank y - d.rank f)) (λ y. times_at_ratio (d.g x f) (times_at_product (d.h_dual y) (low f y))) p q
 
@@ -113,5 +122,6 @@ module _ {X : Type 0} (d : FaceSeries X) where
       → sum_over d.faces (λ f. times_at_ratio (s_tilde d f) (times_at_product (s_tilde_dual d f) (power_of_minus_u (d.rank f))) p q)
       ≡ numerator d p q
   unfolding low term above
-  numerator_by_faces_lem ranked p q = sum_same_in d.faces (λ f. times_at_ratio (s_tilde d f) (above f) p q) (λ f. sum_over (faces_to d f) (λ x. sum_over (faces_from d f) (λ y. sign (d.rank y - d.rank x) *ℤ term x f y p q)))
+  numerator_by_faces_lem ranked p q = sum_same_in d.faces (λ f. times_at_ratio (s_tilde d f) (above f) p q) (λ f. sum_over (faces_to d f)
+      (λ x. sum_over (faces_from d f) (λ y. sign (d.rank y - d.rank x) *ℤ term x f y p q)))
       (λ f jf. face_terms ranked f jf p q)

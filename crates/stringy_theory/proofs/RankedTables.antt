@@ -48,10 +48,12 @@ module _ (R : TightRelation) (table : List RankedFace) (r : IsRankedTable R tabl
   part : (i j : ℕ) → is_part (ranked_at table i).set (ranked_at table j).set ≡ true → IsPart (ranked_at table i).set (ranked_at table j).set
   part i j b = is_part-true (ranked_at table i).set (ranked_at table j).set b
 
-  is_below : (i j : ℕ) → i < length table → j < length table → IsPart (ranked_at table i).set (ranked_at table j).set → is_part (ranked_at table i).set (ranked_at table j).set ≡ true
+  is_below : (i j : ℕ) → i < length table → j < length table → IsPart (ranked_at table i).set (ranked_at table j).set
+      → is_part (ranked_at table i).set (ranked_at table j).set ≡ true
   is_below i j l m p = part-true (ranked_at table i).set (ranked_at table j).set (width i j l m) p
 
-  rising : (i j : ℕ) → i < length table → j < length table → is_part (ranked_at table i).set (ranked_at table j).set ≡ true → is_part (ranked_at table j).set (ranked_at table i).set ≡ false
+  rising : (i j : ℕ) → i < length table → j < length table → is_part (ranked_at table i).set (ranked_at table j).set ≡ true
+      → is_part (ranked_at table j).set (ranked_at table i).set ≡ false
       → (ranked_at table i).rank < (ranked_at table j).rank
   rising i j l m b n = (rank_rises_lem R (ranked_at table i).set (ranked_at table j).set (ranked_at table i).rank (ranked_at table j).rank (face i l) (face j m)
       (part i j b, λ e. true_false (ap (λ s. is_part s (ranked_at table i).set) (sym e) ∙ is_below i i l l (λ k t. t)) n) (ranked i l) (ranked j m)).0
@@ -60,7 +62,8 @@ module _ (R : TightRelation) (table : List RankedFace) (r : IsRankedTable R tabl
   ranked_table_suffices_at top l l_dual = record {
     reflexive = λ x i. is_below x x (number_within (length table) x i) (number_within (length table) x i) (λ k t. t);
     antisymmetric = λ x y i j b c. same_number x y (number_within (length table) x i) (number_within (length table) y j)
-        (same_from_parts (ranked_at table x).set (ranked_at table y).set (width x y (number_within (length table) x i) (number_within (length table) y j)) (part x y b) (part y x c));
+        (same_from_parts (ranked_at table x).set (ranked_at table y).set (width x y (number_within (length table) x i) (number_within
+        (length table) y j)) (part x y b) (part y x c));
     transitive = λ x y z i j k b c. is_below x z (number_within (length table) x i) (number_within (length table) z k) (λ n t. part y z c n (part x y b n t));
     rises = λ x y i j s. let e = and_parts (is_part (ranked_at table x).set (ranked_at table y).set) (not (is_part (ranked_at table y).set (ranked_at table x).set)) s
         in rising x y (number_within (length table) x i) (number_within (length table) y j) e.0 (not-true (is_part (ranked_at table y).set (ranked_at table x).set) e.1);

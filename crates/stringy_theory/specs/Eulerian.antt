@@ -25,7 +25,8 @@ sum_above o G x y k = sum_over (members_above o x y) (λ z. product (power t_min
 -- G[x,x] is 1, and for x strictly below y, G[x,y] is the part of (1-t) H of degree below d/2, with d = rank y - rank x
 pub record IsG {X : Type 0} (o : Order X) (G : X → X → Series) : Type 0 where
   pub same : (x : X) → Contains o.members x → (k : ℕ) → G x x k ≡ one k
-  pub step : (x y : X) → Contains o.members x → Contains o.members y → strictly o x y ≡ true → (k : ℕ) → G x y k ≡ part_below_half (o.gap x y) (product one_minus_t (sum_above o G x y)) k
+  pub step : (x y : X) → Contains o.members x → Contains o.members y → strictly o x y ≡ true → (k : ℕ)
+      → G x y k ≡ part_below_half (o.gap x y) (product one_minus_t (sum_above o G x y)) k
 
 -- G, where at most n steps up are taken
 abbrev pub g_within : {X : Type 0} → Order X → ℕ → X → X → Series
@@ -49,7 +50,8 @@ sum_below o G x y k = sum_over (members_below o x y) (λ z. product (power t_min
 
 pub record IsGDual {X : Type 0} (o : Order X) (G : X → X → Series) : Type 0 where
   pub same : (x : X) → Contains o.members x → (k : ℕ) → G x x k ≡ one k
-  pub step : (x y : X) → Contains o.members x → Contains o.members y → strictly o x y ≡ true → (k : ℕ) → G x y k ≡ part_below_half (o.gap x y) (product one_minus_t (sum_below o G x y)) k
+  pub step : (x y : X) → Contains o.members x → Contains o.members y → strictly o x y ≡ true → (k : ℕ)
+      → G x y k ≡ part_below_half (o.gap x y) (product one_minus_t (sum_below o G x y)) k
 
 -- G'[x,y]
 abbrev pub g_dual : {X : Type 0} → Order X → X → X → Series

@@ -31,15 +31,18 @@ GExists = (o : Order ℕ) → IsGraded o → IsG o (g o) × IsGDual o (g_dual o)
 
 -- and nothing else does
 abbrev pub GIsSingle : Type 0
-GIsSingle = (o : Order ℕ) → IsGraded o → (G : ℕ → ℕ → Series) → IsG o G → (x y : ℕ) → Contains o.members x → Contains o.members y → o.below x y ≡ true → (k : ℕ) → G x y k ≡ g o x y k
+GIsSingle = (o : Order ℕ) → IsGraded o → (G : ℕ → ℕ → Series) → IsG o G → (x y : ℕ) → Contains o.members x → Contains o.members y
+    → o.below x y ≡ true → (k : ℕ) → G x y k ≡ g o x y k
 
 -- nor anything but G'
 abbrev pub GDualIsSingle : Type 0
-GDualIsSingle = (o : Order ℕ) → IsGraded o → (G : ℕ → ℕ → Series) → IsGDual o G → (x y : ℕ) → Contains o.members x → Contains o.members y → o.below x y ≡ true → (k : ℕ) → G x y k ≡ g_dual o x y k
+GDualIsSingle = (o : Order ℕ) → IsGraded o → (G : ℕ → ℕ → Series) → IsGDual o G → (x y : ℕ) → Contains o.members x → Contains o.members y
+    → o.below x y ≡ true → (k : ℕ) → G x y k ≡ g_dual o x y k
 
 -- G[x,y] has no degree of half the gap or more, but for its 1
 abbrev pub GHasSmallDegree : Type 0
-GHasSmallDegree = (o : Order ℕ) → IsGraded o → (x y : ℕ) → Contains o.members x → Contains o.members y → o.below x y ≡ true → (k : ℕ) → 0 < k → o.gap x y ≤ 2 * k → g o x y k ≡ pos 0
+GHasSmallDegree = (o : Order ℕ) → IsGraded o → (x y : ℕ) → Contains o.members x → Contains o.members y → o.below x y ≡ true → (k : ℕ) → 0 < k
+    → o.gap x y ≤ 2 * k → g o x y k ≡ pos 0
 
 -- h* is what k differences leave
 abbrev pub HStarByDifferences : Type 0

@@ -1,0 +1,5 @@
+pub mod Products
+pub mod Coefficients
+pub mod OneProduct
+pub mod Laurent
+pub mod AddedTerms

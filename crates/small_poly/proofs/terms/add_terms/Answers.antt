@@ -1,0 +1,20 @@
+use Rattle.std.proofs.Common.{rules, SFits, refl, ◌<◌, ◌+ℤ◌, ◌/◌, ◌%◌, pos, ℕ, arith}
+use Rattle.std.specs.Int.{w128}
+use Rattle.std.proofs.lemmas.Int.{to_z-of_z}
+use Rattle.lattice_theory.specs.Vector.{entry}
+use Rattle.small_poly.specs.Tables.{unit_of, term}
+use Rattle.small_poly.proofs.AddedTerms.{more_added, total_fits}
+use Rattle.small_poly.proofs.terms.add_terms.Goals as goal
+
+pub loop-k-preserved : goal.loop-k-preserved
+loop-k-preserved c =
+    let k = c.loop-k.k in
+    let T = λ (j : ℕ). term (unit_of c.args.negative) c.args.power (entry c.args.left.now) (entry c.args.right.now) (pos (j / 17)) (j % 17) in
+    let within : c.loop-k.k < 289 = let h = c.loop-k-test.true in let e = c.loop-k.auto.k-end in let l = c.loop-k.invariant.long in let m = c.requires.long in omega arith in
+    let entry_fits : SFits w128 (entry c.loop-k.sums c.loop-k.k) = search rules in
+    let term_fits : SFits w128 c.term_at.result = search rules in
+    let total : SFits w128 (entry c.loop-k.sums c.loop-k.k +ℤ c.term_at.result) =
+    total_fits c.loop-k.sums c.args.sums.now T k c.term_at.result within c.loop-k.invariant.left c.term_at.ensures c.requires.small in
+    let m = more_added c.loop-k.sums c.args.sums.now T k c.term_at.result (entry c.loop-k.sums c.loop-k.k +ℤ c.term_at.result)
+    c.loop-k.invariant.long within c.loop-k.invariant.done c.loop-k.invariant.left c.term_at.ensures refl in
+    simp to_z-of_z (record { long = m.0; done = m.1; left = m.2 })
