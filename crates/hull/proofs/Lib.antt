@@ -12,7 +12,7 @@ mod TightRows
 mod CandidatePoints
 pub mod Growing
 mod WholeHulls
-mod LastPoints
+mod FewerPoints
 mod OuterPoints
 mod SimplexFacets
 mod SimplexExchange

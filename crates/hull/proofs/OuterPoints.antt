@@ -22,7 +22,7 @@ use Rattle.hull.specs.steps.Widths.{ServesPoints}
 use Rattle.hull.proofs.BuilderFacts.{has_facets}
 use Rattle.hull.proofs.FacetBounds.{fewer_serves}
 use Rattle.hull.proofs.Growing.{facets_of_points}
-use Rattle.hull.proofs.LastPoints.{fewer_sized_points, fewer_solid}
+use Rattle.hull.proofs.FewerPoints.{fewer_sized_points, fewer_solid}
 
 -- at first there are the corners
 pub outer_first : (corners : List (List ℤ)) (functions : List Affine) (outer : List (List ℤ)) → outer ≡ corners

@@ -75,7 +75,7 @@ impl HullBuilder {
         ensures refused { IfErr result (Stops (IsStartRefusal (dimension_of points.now) points.now)) }
         ensures no_memory { result ≡ Err Fault.NoMemory → AreSolidPoints points.now }
     {
-        let width = solid(points)?;
+        let width = solid(alloc, points)?;
         let (_corners, facets) = whole_hull(alloc, points, width)?;
         let growth = Growth::new(alloc, copied_points(alloc, points)?, facets)?;
         let points = copied_points(alloc, points)?;

@@ -1,9 +1,9 @@
 //! The facets of points.
 
-ghost use Rattle.std.specs.Prelude.{◌≡◌, ◌≤◌, length, Err, IfOk, OnOk, IfErr, IsTrue};
+ghost use Rattle.std.specs.Prelude.{◌≡◌, ◌≤◌, length, Err, IfOk, OnOk, IfErr};
 ghost use Rattle.std.specs.List.{All};
 ghost use Rattle.lattice_theory.specs.Size.{size};
-ghost use Rattle.lattice_theory.specs.Facet.{IsFlat, AreFacets};
+ghost use Rattle.lattice_theory.specs.Facet.{AreFacets};
 ghost use Rattle.lattice_core.specs.declared.faults.Fault.TheVariants as Fault;
 ghost use Rattle.lattice_core.specs.declared.limits.TheConstants.{MOST_FACETS};
 ghost use Rattle.lattice_core.specs.Dimensions.{dimension_of};
@@ -19,6 +19,7 @@ ghost use Rattle.hull.specs.Faults.{IsSizeRefusal, IsStartRefusal, IsFacetsRefus
 use crate::flat::flat_function;
 use crate::outer::outer_points;
 use crate::simplex::first_simplex;
+use crate::spread::are_spread_solid;
 use hull_growth::{Growth, first_beyond};
 use lattice_core::{
     Fault, Functional, LimitName, MOST_FACETS, NoMemory, Point, Refusal, Width,
@@ -83,28 +84,15 @@ pub(crate) fn sized(points: &[Point]) -> Result<Width, Refusal>
     Ok(width_of(n, size))
 }
 
-/// How many of the last points are looked at first.
-const LAST_POINTS: usize = 24;
-
-/// Whether the last few of the points aren't flat. In lists of lattice points in order these are mostly far from each other, and then all points
-/// aren't flat.
-fn are_last_solid(points: &[Point]) -> bool
-    requires points { AreSizedPoints points.now }
-    ensures { IsTrue result → IsFlat (dimension_of points.now) points.now → ⊥ }
-{
-    let from = points.len().saturating_sub(LAST_POINTS);
-    flat_function(&points[from..]).is_none()
-}
-
 /// Refuses points that are too large, and then flat ones, and tells the width that serves the others.
-pub(crate) fn solid(points: &[Point]) -> Result<Width, Refusal>
+pub(crate) fn solid(alloc: Global, points: &[Point]) -> Result<Width, Refusal>
     requires points { ArePoints points.now }
     ensures solid { OnOk result (AreSolidPoints points.now) }
     ensures width { IfOk result (ServesPoints points.now) }
     ensures refused { IfErr result (IsStartRefusal (dimension_of points.now) points.now) }
 {
     let width = sized(points)?;
-    if are_last_solid(points) {
+    if are_spread_solid(alloc, points) {
         return Ok(width);
     }
     match flat_function(points) {
@@ -124,7 +112,7 @@ pub fn all_facets(alloc: Global, points: &[Point]) -> Result<Vec<Functional>, Fa
     ensures refused { IfErr result (Stops (IsStartRefusal (dimension_of points.now) points.now)) }
     ensures no_memory { result ≡ Err Fault.NoMemory → AreSolidPoints points.now }
 {
-    let width = solid(points)?;
+    let width = solid(alloc, points)?;
     let (_corners, facets) = whole_hull(alloc, points, width)?;
     Ok(facets)
 }

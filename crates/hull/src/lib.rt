@@ -17,6 +17,7 @@ mod planes;
 mod polytope;
 mod reduction;
 mod simplex;
+mod spread;
 mod tight_rows;
 mod vertices;
 

@@ -43,7 +43,7 @@ pub fn hull_of(alloc: Global, points: &[Point]) -> Result<Hull, Fault>
     ensures refused { IfErr result (Stops (IsPolytopeRefusal (dimension_of points.now) points.now)) }
     ensures no_memory { result ≡ Err Fault.NoMemory → AreSolidPoints points.now }
 {
-    let width = solid(points)?;
+    let width = solid(alloc, points)?;
     let (corners, facets) = whole_hull(alloc, points, width)?;
     if facets.len() > MOST_FACETS {
         return Err(Fault::Refused(Refusal::Limit(LimitName::Facets, facets.len() as u128)));

@@ -1,9 +1,9 @@
--- Some of the points, as the last few: they are within the size limit as all are, and flat where all are.
-use Rattle.std.proofs.Common.{◌≡◌, ℕ, ◌<◌, List, length, drop, length-drop, ℤ, pos, sym, subst, Contains, true, Some, None, arith}
-use Rattle.std.specs.Prelude.{◌-◌, Option, MatchOption, is_none}
+-- Some of the points: they are within the size limit as all are, and flat where all are.
+use Rattle.std.proofs.Common.{◌≡◌, ℕ, ◌<◌, List, [], ◌∷◌, ◌++◌, length, get_or, ℤ, pos, sym, subst, All, Contains, true, Some, None, arith}
+use Rattle.std.specs.Prelude.{Option, MatchOption, is_none}
 use Rattle.std.proofs.lemmas.Bool.{true≢false}
-use Rattle.std.proofs.lemmas.List.{length-take}
-use Rattle.std.proofs.lemmas.List.Elements.{All-contains, All-weaker, All-contains_itself}
+use Rattle.std.proofs.lemmas.List.{length_push}
+use Rattle.std.proofs.lemmas.List.Elements.{All-push, All-contains, All-weaker, All-contains_itself}
 use Rattle.lattice_theory.specs.Vector.{HaveDimension}
 use Rattle.lattice_theory.specs.Affine.{value}
 use Rattle.lattice_theory.specs.Facet.{IsFlat}
@@ -11,15 +11,16 @@ use Rattle.lattice_core.specs.Dimensions.{dimension_of}
 use Rattle.lattice_core.specs.Limits.{IsSized}
 use Rattle.lattice_core.specs.PointLists.{AreSizedPoints}
 use Rattle.lattice_core.proofs.Dimension.{dimension_is}
-use Rattle.hull_growth.proofs.LastMembers.{last_of}
 use Rattle.hull_growth.proofs.Small.{fewer_sized, fewer_dimension}
 
--- the points from a place on, where there are more, are some
-pub last_some : (from : ℕ) (points : List (List ℤ)) → from < length points → 0 < length (last_of from points)
-last_some from points h =
-    let d = length-drop from points in
-    let t = length-take (length points - from) (drop from points) in
-    omega arith
+-- with the copy of one more point they are points, and there is one
+pub one_more_among : (points old new : List (List ℤ)) (p copy : List ℤ) (i : ℕ) → i < length points → p ≡ get_or points i p → copy ≡ p
+    → new ≡ old ++ (copy ∷ []) → All (Contains points) old → (0 < length new) × All (Contains points) new
+one_more_among points old new p copy i l e c s among =
+    subst (λ (ps : List (List ℤ)). (0 < length ps) × All (Contains points) ps) (sym s) (
+      (let n = length_push old copy in omega arith),
+      All-push (Contains points) old copy among (subst (Contains points) (sym c) (i, l, sym e)),
+    )
 
 -- what holds where there is no value
 pub of_none : {X : Type 0} (o : Option X) (P : Type 0) (Q : X → Type 0) → is_none o ≡ true → MatchOption o P Q → P
