@@ -4,3 +4,7 @@ pub mod PolytopeStops
 pub mod UnitSegment
 pub mod DualSides
 pub mod PairLaws
+pub mod SmallPoints
+pub mod FoundFaces
+pub mod Counts
+pub mod Insides

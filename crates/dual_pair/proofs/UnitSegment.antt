@@ -4,7 +4,7 @@ use Rattle.std.proofs.lemmas.Int.{ints}
 use Rattle.lattice_theory.specs.Affine.{value}
 use Rattle.lattice_theory.specs.Order.{LexLess}
 use Rattle.lattice_theory.specs.Hull.{InHull}
-use Rattle.lattice_theory.specs.Points.{IsLatticePoint, AreLatticePoints}
+use Rattle.lattice_theory.specs.Points.{AreLatticePoints}
 use Rattle.lattice_theory.specs.Examples.{on_line, function, minus1}
 use Rattle.lattice_theory.proofs.Members.{In, here, there, empty, more, all_from_each, each_from_all, each_in, in_from_contains, contains_from_in}
 use Rattle.lattice_core.specs.Dimensions.{dimension_of}

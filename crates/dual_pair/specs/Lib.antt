@@ -2,5 +2,8 @@ pub use Rattle.lattice_theory.specs.Affine
 pub mod Polytopes
 pub mod Pairs
 pub mod Kinds
+pub mod Faces
+pub mod Interiors
+pub mod CountSteps
 pub mod PairSteps
 pub mod Laws

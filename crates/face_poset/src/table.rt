@@ -114,6 +114,33 @@ impl FaceTable {
         )
     }
 
+    /// For how many members it was opened, 1 to 4,096.
+    pub fn members(&self) -> u32
+        ensures value { result ≡ self.now.members }
+        ensures least { 1 ≤ result }
+        ensures most { result ≤ MOST_WIDTH }
+    {
+        self.members
+    }
+
+    /// For how many functions it was opened, 1 to 4,096.
+    pub fn functions(&self) -> u32
+        ensures value { result ≡ self.now.functions }
+        ensures least { 1 ≤ result }
+        ensures most { result ≤ MOST_WIDTH }
+    {
+        self.functions
+    }
+
+    /// Takes all faces away.
+    pub fn clear(&mut self)
+        ensures members { self.new.members ≡ self.old.members }
+        ensures functions { self.new.functions ≡ self.old.functions }
+        ensures empty { self.new.faces ≡ [] }
+    {
+        self.list.clear();
+    }
+
     /// How many faces there are, at most 4,096.
     pub fn len(&self) -> u32
         ensures value { result ≡ length self.now.faces }
@@ -188,7 +215,8 @@ impl FaceTable {
 
     /// The number of the face with these members, as words as long as the table's. `None` comes exactly where no face has them.
     pub fn find(&self, members: &[u64]) -> Option<u32>
-        ensures { MatchOption result ((k : ℕ) → k < length self.now.faces → (face_at self.now.faces k).members ≡ members.now → ⊥)
+        ensures few { length self.now.faces ≤ MOST_FACES }
+        ensures found { MatchOption result ((k : ℕ) → k < length self.now.faces → (face_at self.now.faces k).members ≡ members.now → ⊥)
             (λ k. (k < length self.now.faces) × ((face_at self.now.faces k).members ≡ members.now)) }
     {
         match self.list.find(members) {
@@ -200,7 +228,8 @@ impl FaceTable {
     /// The number of the face whose dual face has these functions, as words as long as the table's. `None` comes exactly where no dual face has
     /// them.
     pub fn find_functions(&self, functions: &[u64]) -> Option<u32>
-        ensures { MatchOption result ((k : ℕ) → k < length self.now.faces → (face_at self.now.faces k).functions ≡ functions.now → ⊥)
+        ensures few { length self.now.faces ≤ MOST_FACES }
+        ensures found { MatchOption result ((k : ℕ) → k < length self.now.faces → (face_at self.now.faces k).functions ≡ functions.now → ⊥)
             (λ k. (k < length self.now.faces) × ((face_at self.now.faces k).functions ≡ functions.now)) }
     {
         match self.list.find_functions(functions) {

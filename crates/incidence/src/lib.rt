@@ -13,6 +13,7 @@ mod words;
 
 pub use incidence::Incidence;
 pub use laws::{held_stays, made_is_held, rows_tell, told_is_single, told_rows_agree};
+pub use values::{width_for, zeros_into};
 pub use words::put_bit;
 
 #[cfg(test)]

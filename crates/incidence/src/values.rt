@@ -27,7 +27,7 @@ fn are_small(functions: &[Functional], bound: u64) -> bool
 }
 
 /// A width in which all values can be worked out: 64 bits where the numbers are small enough for it.
-pub(crate) fn width_for(points: &[Point], functions: &[Functional]) -> Width
+pub fn width_for(points: &[Point], functions: &[Functional]) -> Width
     requires { HaveValues points.now functions.now }
     ensures { Suits result points.now functions.now }
 {
@@ -55,6 +55,22 @@ fn lies_on(p: &Point, f: &Functional, width: Width) -> bool
     f.value_at(p, width) == 0
 }
 
+/// Writes the words of the functions that are 0 at a point into words that have room for them.
+pub fn zeros_into(words: &mut [u64], p: &Point, functions: &[Functional], width: Width)
+    requires room { length functions.now ≤ 64 * length words.old }
+    requires dimension { All (λ f. length f.normal ≡ length p.now) functions.now }
+    requires fits { All (λ f. FitsWidth width f p.now) functions.now }
+    ensures whole { length words.new ≡ length words.old }
+    ensures bits { HasExactly (length functions.now) (λ f. is_zero (value (function_at functions.now f) p.now)) words.new }
+{
+    words.fill(0);
+    for f in 0..functions.len() {
+        if lies_on(p, &functions[f], width) {
+            put_bit(words, f);
+        }
+    }
+}
+
 /// The words of the functions that are 0 at a point.
 fn functions_on(p: &Point, functions: &[Functional], width: Width) -> [u64; 64]
     requires most { length functions.now ≤ MOST_WIDTH }
@@ -64,11 +80,7 @@ fn functions_on(p: &Point, functions: &[Functional], width: Width) -> [u64; 64]
     ensures bits { HasExactly (length functions.now) (λ f. is_zero (value (function_at functions.now f) p.now)) result }
 {
     let mut words = [0; 64];
-    for f in 0..functions.len() {
-        if lies_on(p, &functions[f], width) {
-            put_bit(&mut words, f);
-        }
-    }
+    zeros_into(&mut words, p, functions, width);
     words
 }
 

@@ -3,11 +3,8 @@ use Rattle.face_theory.proofs.Sets.{true_false}
 use Rattle.incidence.proofs.Bits.{none_at_first, exact_with, exact_without}
 use Rattle.incidence.proofs.SmallValues.{zero_at}
 use Rattle.incidence.specs.Incidences.{HasExactly}
-use Rattle.incidence.proofs.values.functions_on.Goals.{then-lies_on, else-lies_on}
-use Rattle.incidence.proofs.values.functions_on.Goals as goal
-
-pub loop-f-init : goal.loop-f-init
-loop-f-init c = record { whole = refl; bits = none_at_first 64 0 _ refl }
+use Rattle.incidence.proofs.values.zeros_into.Goals.{then-lies_on, else-lies_on}
+use Rattle.incidence.proofs.values.zeros_into.Goals as goal
 
 pub loop-f-preserved : goal.loop-f-preserved
 loop-f-preserved c =
