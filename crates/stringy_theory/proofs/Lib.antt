@@ -5,3 +5,4 @@ pub mod LowPowers
 pub mod HighPowers
 pub mod RisingRanks
 pub mod RankedTables
+pub mod SmallNumbers

@@ -1,5 +1,5 @@
 -- A finite list of faces with an order and ranks. This project's own.
-use Rattle.std.specs.Prelude.{◌≡◌, ℕ, ◌-◌, ◌≤◌, Bool, true, List}
+use Rattle.std.specs.Prelude.{◌≡◌, ℕ, ◌-◌, ◌^◌, ◌≤◌, Bool, true, List, length, pos, nat_abs}
 use Rattle.std.specs.List.{filter, Contains}
 use Rattle.polynomial_theory.specs.Series.{Series, HasDegreeAtMost}
 
@@ -39,3 +39,13 @@ pub record HaveSmallDualDegrees {X : Type 0} (top : ℕ) (d : FaceSeries X) : Ty
   pub highest : (y : X) → Contains d.faces y → d.rank y ≤ top
   pub counts : (y : X) → Contains d.faces y → HasDegreeAtMost (top - d.rank y) (d.h_dual y)
   pub intervals : (f y : X) → Contains d.faces f → Contains d.faces y → d.below f y ≡ true → HasDegreeAtMost (d.rank y - d.rank f) (d.g_dual f y)
+
+-- at most 2^12 faces; coefficients of h* are at most 2^28 in size, those of G and G' at most 2^12, and of degree 3 at most
+pub record HaveSmallCoefficients {X : Type 0} (d : FaceSeries X) : Type 0 where
+  pub few : length d.faces ≤ 2 ^ 12
+  pub h : (x : X) → Contains d.faces x → (k : ℕ) → nat_abs (d.h x k) ≤ 2 ^ 28
+  pub h_dual : (y : X) → Contains d.faces y → (k : ℕ) → nat_abs (d.h_dual y k) ≤ 2 ^ 28
+  pub g : (x f : X) → Contains d.faces x → Contains d.faces f → d.below x f ≡ true → (k : ℕ) → nat_abs (d.g x f k) ≤ 2 ^ 12
+  pub g_dual : (f y : X) → Contains d.faces f → Contains d.faces y → d.below f y ≡ true → (k : ℕ) → nat_abs (d.g_dual f y k) ≤ 2 ^ 12
+  pub g_degree : (x f : X) → Contains d.faces x → Contains d.faces f → d.below x f ≡ true → (k : ℕ) → 4 ≤ k → d.g x f k ≡ pos 0
+  pub g_dual_degree : (f y : X) → Contains d.faces f → Contains d.faces y → d.below f y ≡ true → (k : ℕ) → 4 ≤ k → d.g_dual f y k ≡ pos 0

@@ -5,7 +5,7 @@ use Rattle.polynomial_theory.specs.Sums.{sum_over, sign}
 use Rattle.polynomial_theory.specs.Series.{Series, HasNoPowerBelow, HasNoPowerAbove, times_at_ratio, times_at_product, power_of_minus_u}
 use Rattle.stringy_theory.specs.Eulerian.{Order, IsGraded, IsG, IsGDual, g, g_dual}
 use Rattle.stringy_theory.specs.HStar.{alternating, differences_of}
-use Rattle.stringy_theory.specs.FaceSeries.{FaceSeries, IsRanked, HaveSmallDegrees, HaveSmallDualDegrees, faces_from}
+use Rattle.stringy_theory.specs.FaceSeries.{FaceSeries, IsRanked, HaveSmallDegrees, HaveSmallDualDegrees, HaveSmallCoefficients, faces_from}
 use Rattle.stringy_theory.specs.Stringy.{numerator, b, s_tilde, s_tilde_dual}
 use Rattle.face_theory.specs.Faces.{TightRelation}
 use Rattle.face_theory.specs.Ranks.{RankedFace}
@@ -76,3 +76,12 @@ RanksSuffice = (c : CountedFaces ℕ) → HasRisingRanks c
 abbrev pub RankedTableSuffices : Type 0
 RankedTableSuffices = (R : TightRelation) (table : List RankedFace) → IsRankedTable R table
     → (top : ℕ) (l l_dual : ℕ → Series) → HasRisingRanks (numbered_faces table top l l_dual)
+
+-- where coefficients are small, those of S~ are at most 2^54 in size, on both sides
+abbrev pub STildeIsSmall : Type 0
+STildeIsSmall = (d : FaceSeries ℕ) → HaveSmallCoefficients d → (f : ℕ) → Contains d.faces f → (k : ℕ)
+    → (nat_abs (s_tilde d f k) ≤ 2 ^ 54) × (nat_abs (s_tilde_dual d f k) ≤ 2 ^ 54)
+
+-- and those of the numerator at most 2^120
+abbrev pub NumeratorIsSmall : Type 0
+NumeratorIsSmall = (d : FaceSeries ℕ) → IsRanked d → HaveSmallCoefficients d → (p q : ℕ) → nat_abs (numerator d (pos p) q) ≤ 2 ^ 120
