@@ -58,7 +58,8 @@ some_tail n degree weights tails has = by weights refl
     by [] e = let columns = has.summed.columns in let none = ap length e in absurd (omega (arith, columns, none))
     by (w ∷ ws) e =
         let sum = has.summed.sum in
-        within ((has.members (monomial_point (map pos (ones (length ws))))).1 (subst (λ (v : List ℕ). IsTail (system_of degree v) (monomial_point (map pos (ones (length ws))))) e (record {
+        within ((has.members (monomial_point (map pos (ones (length ws))))).1
+        (subst (λ (v : List ℕ). IsTail (system_of degree v) (monomial_point (map pos (ones (length ws))))) e (record {
           first = pos 1;
           later = map pos (ones (length ws));
           monomial = monomial_from_solution (system_of degree (w ∷ ws) ∷ []) (1 ∷ ones (length ws)) (record {

@@ -4,3 +4,6 @@ mod Sizes
 mod InteriorPoints
 mod Cutting
 mod Listing
+mod Places
+mod Fronts
+mod FirstSystems

@@ -1,10 +1,12 @@
 -- Steps of the listing.
-use Rattle.std.proofs.Common.{◌≡◌, ◌⊎◌, inl, inr, ℕ, zero, suc, ◌+◌, ◌-◌, ◌<◌, ◌≤◌, List, [], ◌∷◌, ◌++◌, length, map, take, get_or, refl, sym, ap, ◌∙◌, subst, arith, length-append, take-take}
+use Rattle.std.proofs.Common.{◌≡◌, ◌⊎◌, inl, inr, ℕ, zero, suc, ◌+◌, ◌-◌, ◌<◌, ◌≤◌, List, []}
+use Rattle.std.proofs.Common.{◌∷◌, ◌++◌, length, map, take, get_or, refl, sym, ap, ◌∙◌, subst, arith, length-append, take-take}
 use Rattle.std.specs.List.{Contains}
 use Rattle.std.proofs.lemmas.Bool.{cases_lt}
 use Rattle.std.proofs.lemmas.List.{append_assoc, append-nil, map-append}
 use Rattle.lattice_theory.specs.Order.{Lists}
-use Rattle.lattice_theory.proofs.Members.{empty, each_push, each_right, each_head, each_weaker, each_in, each_from_all, all_from_each, In, in_append_left, in_append_right, in_append_cases, in_from_contains, contains_from_in}
+use Rattle.lattice_theory.proofs.Members.{empty, each_push, each_right, each_head, each_weaker, each_in, each_from_all}
+use Rattle.lattice_theory.proofs.Members.{all_from_each, In, in_append_left, in_append_right, in_append_cases, in_from_contains, contains_from_in}
 use Rattle.lattice_theory.proofs.Sublists.{ascends_append, ascends_map, in_map, from_map, IsImage}
 use Rattle.lattice_core.specs.Weights.{Weighted}
 use Rattle.walk_theory.specs.Walks.{NumbersLess}

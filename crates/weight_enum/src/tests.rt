@@ -1,6 +1,6 @@
 //! Tests of small weights.
-use crate::{is_ip, systems_of_degree};
-use lattice_core::WeightSystem;
+use crate::{IpSearch, is_ip, systems_of_degree};
+use lattice_core::{NoMemory, WeightSystem};
 use std::test::Fail;
 
 /// Whether the systems have these weights, in order.
@@ -55,5 +55,24 @@ fn systems_of_a_degree_are_listed_in_order(rt: HostRuntime) -> Result<(), Fail> 
             ]
         )
     );
+    Ok(())
+}
+
+/// Whether the search gives these weights next, or, where there are none, nothing.
+fn gives(search: &mut IpSearch, weights: &[u64]) -> Result<bool, NoMemory> {
+    match search.next()? {
+        Some(system) => Ok(system.weights.as_slice() == weights),
+        None => Ok(weights.is_empty()),
+    }
+}
+
+#[test]
+fn search_goes_from_degree_to_degree(rt: HostRuntime) -> Result<(), Fail> {
+    let mut search = IpSearch::new(rt.alloc(), 2, 1, 7)?;
+    assert!(rt; gives(&mut search, &[1, 1, 1])?);
+    assert!(rt; gives(&mut search, &[1, 1, 2])?);
+    assert!(rt; gives(&mut search, &[1, 2, 3])?);
+    assert!(rt; gives(&mut search, &[])?);
+    assert!(rt; gives(&mut search, &[])?);
     Ok(())
 }

@@ -5,7 +5,8 @@ use Rattle.std.proofs.lemmas.List.{take_more_set, take-set}
 use Rattle.lattice_core.specs.Weights.{weighted_all}
 use Rattle.weight_enum.specs.Taken.{AreSearched}
 use Rattle.weight_enum.specs.steps.Listing.{IsCompleted, AddsSystems, IsReady}
-use Rattle.weight_enum.proofs.Listing.{IsCompletedBelow, adds_nothing, adds_next, adds_same, none_below_first, completed_from_below, below_from_completed, below_wider, front_of, next_ready}
+use Rattle.weight_enum.proofs.Listing.{IsCompletedBelow, adds_nothing, adds_next, adds_same, none_below_first}
+use Rattle.weight_enum.proofs.Listing.{completed_from_below, below_from_completed, below_wider, front_of, next_ready}
 use Rattle.weight_enum.proofs.degrees.+add_systems.Goals as goal
 
 pub loop-weight-init : goal.loop-weight-init
