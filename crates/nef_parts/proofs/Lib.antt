@@ -2,3 +2,9 @@ pub mod Pushing
 pub mod RowSteps
 pub mod MaskSteps
 pub mod PairFacts
+pub mod Listings
+pub mod Counting
+pub mod Completions
+pub mod RowAgreements
+pub mod BeginningSteps
+pub mod SearchSteps

@@ -1,2 +1,4 @@
 pub mod Lists
+pub mod Partitions
+pub mod Listing
 pub mod steps

@@ -5,7 +5,11 @@
 //! (`Masks::of`).
 #![tactic(auto)]
 
+mod agreeing;
+mod beginnings;
 mod masks;
 mod pairings;
+mod search;
 
+pub use beginnings::MOST_PARTS;
 pub use masks::Masks;
