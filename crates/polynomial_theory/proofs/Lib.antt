@@ -4,3 +4,4 @@ pub mod Places
 pub mod Splits
 pub mod LowPowers
 pub mod HighPowers
+pub mod ProductDegrees

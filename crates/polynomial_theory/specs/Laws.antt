@@ -26,3 +26,7 @@ LowestPower = (m : ℤ) (n : ℕ) (A : Series) (f : LaurentSeries) → HasNoPowe
 abbrev pub HighestPowers : Type 0
 HighestPowers = (k m n : ℕ) (A : Series) (f : LaurentSeries) → HasDegreeAtMost k A → HasNoPowerAbove m n f
     → HasNoPowerAbove (m + k) (n + k) (times_at_product A f) × HasNoPowerAbove m (n + k) (times_at_ratio A f)
+
+-- the degree of a product is at most the sum of those of its factors
+abbrev pub ProductDegree : Type 0
+ProductDegree = (m n : ℕ) (A B : Series) → HasDegreeAtMost m A → HasDegreeAtMost n B → HasDegreeAtMost (m + n) (product A B)

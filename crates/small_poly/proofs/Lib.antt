@@ -3,3 +3,5 @@ pub mod Coefficients
 pub mod OneProduct
 pub mod Laurent
 pub mod AddedTerms
+pub mod SmallSums
+mod Lines

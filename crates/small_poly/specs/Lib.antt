@@ -3,3 +3,4 @@ pub use Rattle.polynomial_theory.specs.Series
 pub mod Sizes
 pub mod Tables
 pub mod TermSteps
+pub mod Laws

@@ -7,6 +7,7 @@
 //! polynomials that are put in at v/u and uv.
 #![tactic(auto)]
 
+mod laws;
 mod lists;
 mod one;
 mod terms;
@@ -14,5 +15,6 @@ mod terms;
 mod tests;
 mod two;
 
+pub use laws::sums_are_small;
 pub use one::Poly1;
 pub use two::Poly2;

@@ -1,0 +1,54 @@
+-- Polynomials of degree 1 with small coefficients, as the tests make them.
+use Rattle.std.proofs.Common.{◌≡◌, ℕ, ◌*◌, ◌^◌, ◌<◌, ◌≤◌, ◌==◌, Bool, true, false, cond, List, ℤ, pos, ◌+ℤ◌, ◌-ℤ◌, ◌*ℤ◌, nat_abs, ap, ◌∙◌, arith}
+use Rattle.std.proofs.Math.Nat.{mul-le-mul}
+use Rattle.std.proofs.lemmas.Bool.{ne_eqb, cond-false}
+use Rattle.std.proofs.lemmas.Int.{ints, unsigned_abs-mul}
+use Rattle.lattice_theory.specs.Vector.{entry}
+use Rattle.polynomial_theory.specs.Series.{HasDegreeAtMost, product}
+use Rattle.polynomial_theory.proofs.ProductDegrees.{product_degree_lem}
+use Rattle.small_poly.specs.Sizes.{HasSmallSums}
+use Rattle.small_poly.proofs.SmallSums.{small_sums_lem}
+
+-- one of two small numbers
+chosen : (b : Bool) (x y : ℤ) → nat_abs x ≤ 3 → nat_abs y ≤ 3 → nat_abs (cond b x y) ≤ 3
+chosen true x y h k = h
+chosen false x y h k = k
+
+small_zero : (x : ℤ) → x ≡ pos 0 → nat_abs x ≤ 3
+small_zero x e = let f = ap nat_abs e in omega arith
+
+-- two coefficients that are set
+pub line_size : (none first second : List ℤ) (a b : ℤ) → ((k : ℕ) → entry none k ≡ pos 0) → ((k : ℕ) → entry first k ≡ cond (k == 0) a (entry none k))
+    → ((k : ℕ) → entry second k ≡ cond (k == 1) b (entry first k)) → nat_abs a ≤ 3 → nat_abs b ≤ 3 → (k : ℕ) → nat_abs (entry second k) ≤ 3
+line_size none first second a b z f s h l k = rw (s k) (chosen (k == 1) b (entry first k) l
+    (rw (f k) (chosen (k == 0) a (entry none k) h (small_zero (entry none k) (z k)))))
+
+pub line_degree : (none first second : List ℤ) (a b : ℤ) → ((k : ℕ) → entry none k ≡ pos 0) → ((k : ℕ) → entry first k ≡ cond (k == 0) a (entry none k))
+    → ((k : ℕ) → entry second k ≡ cond (k == 1) b (entry first k)) → HasDegreeAtMost 1 (entry second)
+line_degree none first second a b z f s k h = s k ∙ cond-false (k == 1) b (entry first k) (ne_eqb k 1 (λ e. absurd (omega arith)))
+    ∙ f k ∙ cond-false (k == 0) a (entry none k) (ne_eqb k 0 (λ e. absurd (omega arith))) ∙ z k
+
+-- what their sums, differences and products ask
+pub lines_add : (x y : List ℤ) → ((k : ℕ) → nat_abs (entry x k) ≤ 3) → ((k : ℕ) → nat_abs (entry y k) ≤ 3)
+    → (k : ℕ) → nat_abs (entry x k +ℤ entry y k) < 2 ^ 126
+lines_add x y h l k = by (entry x k) (entry y k) (h k) (l k)
+  where
+    by : (a b : ℤ) → nat_abs a ≤ 3 → nat_abs b ≤ 3 → nat_abs (a +ℤ b) < 2 ^ 126
+    by a b h k = omega (arith, ints)
+
+pub lines_subtract : (x y : List ℤ) → ((k : ℕ) → nat_abs (entry x k) ≤ 3) → ((k : ℕ) → nat_abs (entry y k) ≤ 3)
+    → (k : ℕ) → nat_abs (entry x k -ℤ entry y k) < 2 ^ 126
+lines_subtract x y h l k = by (entry x k) (entry y k) (h k) (l k)
+  where
+    by : (a b : ℤ) → nat_abs a ≤ 3 → nat_abs b ≤ 3 → nat_abs (a -ℤ b) < 2 ^ 126
+    by a b h k = omega (arith, ints)
+
+pub lines_degree : (x y : List ℤ) → HasDegreeAtMost 1 (entry x) → HasDegreeAtMost 1 (entry y) → HasDegreeAtMost 8 (product (entry x) (entry y))
+lines_degree x y d e k h = product_degree_lem 1 1 (entry x) (entry y) d e k (omega arith)
+
+pub lines_sums : (x y : List ℤ) → HasDegreeAtMost 1 (entry x) → ((k : ℕ) → nat_abs (entry x k) ≤ 3) → ((k : ℕ) → nat_abs (entry y k) ≤ 3)
+    → HasSmallSums (entry x) (entry y)
+lines_sums x y d h l = small_sums_lem (entry x) (entry y) (λ k m. d k (omega arith)) (λ a b. by (entry x a) (entry y b) (h a) (l b))
+  where
+    by : (a b : ℤ) → nat_abs a ≤ 3 → nat_abs b ≤ 3 → nat_abs (a *ℤ b) ≤ 2 ^ 122
+    by a b h k = let n : nat_abs (a *ℤ b) ≤ 3 * 3 = rw unsigned_abs-mul (mul-le-mul h k) in omega arith
