@@ -27,7 +27,7 @@ pub(crate) fn point_difference(p: &Point, q: &Point) -> ArrayVec<i64, MOST_COORD
     entries
 }
 
-/// The kernel of the differences of the other points and the first.
+/// The kernel of the differences of the other points and the first. Where it has no member left no more points are needed.
 pub(crate) fn kernel_of(points: &[Point]) -> ArrayVec<KernelMember, MOST_COORDINATES>
     requires points { AreSizedPoints points.now }
     ensures kernel { IsPrimitiveKernel (dimension_of points.now) (differences points.now) result.items }
@@ -37,7 +37,9 @@ pub(crate) fn kernel_of(points: &[Point]) -> ArrayVec<KernelMember, MOST_COORDIN
     let first = &points[0];
     let mut kernel = kernel_of_none(first.dim());
     for p in &points[1..] {
-        kernel = kernel_with(kernel, point_difference(p, first).as_slice());
+        if !kernel.is_empty() {
+            kernel = kernel_with(kernel, point_difference(p, first).as_slice());
+        }
     }
     kernel
 }

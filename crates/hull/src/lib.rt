@@ -1,6 +1,7 @@
 //! Facets and vertices of the hull of points with 1 to 6 coordinates. It stands on `hull_growth` for a hull that grows point by point, on
 //! `lattice_core` for numbers and points, on `bit_rows`, on the laws of `elimination`, `facet_theory` and `ridge_theory` for what they mean, and on
-//! `normal_bounds` for how large the numbers are. Its central theorem: `facets_of` gives exactly the facets of the definition, `vertices_of` exactly the vertices, and `hull_of` both.
+//! `normal_bounds` for how large the numbers are. Its central theorem: `facets_of` gives exactly the facets of the definition, `vertices_of`
+//! exactly the vertices, and `hull_of` both.
 #![tactic(auto)]
 
 mod bounds;

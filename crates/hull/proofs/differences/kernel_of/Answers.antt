@@ -1,4 +1,4 @@
-use Rattle.std.proofs.Common.{◌≡◌, ◌*◌, ◌≤◌, ◌^◌, length, take, refl, sym, ap, ◌∙◌, subst, arith}
+use Rattle.std.proofs.Common.{◌≡◌, ◌+◌, ◌*◌, ◌≤◌, ◌^◌, length, take, refl, sym, ap, ◌∙◌, subst, rules, arith}
 use Rattle.std.proofs.lemmas.List.Elements.{All-contains, All-take}
 use Rattle.std.proofs.lemmas.List.{take_all}
 use Rattle.lattice_theory.specs.Size.{absolute_sum}
@@ -7,10 +7,11 @@ use Rattle.lattice_core.specs.Dimensions.{dimension_of}
 use Rattle.hull.specs.steps.Differences.{difference, differences}
 use Rattle.hull.specs.steps.Kernels.{IsPrimitiveKernel, IsSmallKernel}
 use Rattle.hull.proofs.Kernels.{members_entries}
+use Rattle.hull.proofs.Pivots.{without_pivot}
 use Rattle.hull_growth.proofs.Small.{points_small, points_bound}
 use Rattle.hull.proofs.Vectors.{length-difference, absolute_sum-difference, others_of, others_all, others_length, differences_are, small_kernel, next_kernel, first_length, from}
 use Rattle.hull.proofs.differences.kernel_of.Goals as goal
-use Rattle.hull.proofs.differences.kernel_of.Goals.{After-dim, After-as_slice, After-loop-p}
+use Rattle.hull.proofs.differences.kernel_of.Goals.{After-dim, After-as_slice, After-loop-p, then-not-is_empty, else-not-is_empty}
 
 -- the first point's length
 first_dimension : (c : After-dim) → length c.index-points-0.result ≡ dimension_of c.args.points.now
@@ -96,17 +97,42 @@ kernel_with-kernel-requires-clause-small c =
 
 pub loop-p-preserved : goal.loop-p-preserved
 loop-p-preserved c =
-    let at = (goal.at.loop-p-preserved c).After-as_slice in
-    let first = first_length (dimension_of c.args.points.now) c.args.points.now c.index-points-0.result
-    c.requires.points.are_points.one_dimension c.requires.points.are_points.some c.index-points-0.is in
-    let count = c.kernel_with-kernel.ensures.count in
-    record {
-      kernel = next_kernel (length c.index-points-0.result) c.index-points-0.result (others_of c.args.points.now) c.loop-p.p-index
-          c.p-item.result c.as_slice.result.now c.loop-p.kernel.items c.loop-p.kernel.items c.kernel_with-kernel.result.items
-          c.loop-p-test.true c.p-item.is (turn_difference at) (turn_length at ∙ sym first) refl
-          c.kernel_with-kernel.ensures.kernel c.loop-p.invariant.kernel;
-      count = omega (arith, count);
-    }
+    let n = dimension_of c.args.points.now in
+    let others = others_of c.args.points.now in
+    let i = c.loop-p.p-index in
+    let p = c.p-item.result in
+    let f = c.index-points-0.result in
+    let ks = c.loop-p.kernel.items in
+    let first = first_length n c.args.points.now f c.requires.points.are_points.one_dimension c.requires.points.are_points.some
+    c.index-points-0.is in
+    let long : length p ≡ n = All-contains (λ q. length q ≡ n) others p
+    (others_all (λ q. length q ≡ n) c.args.points.now c.requires.points.are_points.one_dimension) (i, c.loop-p-test.true, sym c.p-item.is) in
+    let own : length (difference p f) ≡ length f = length-difference p f (long ∙ sym first) ∙ long ∙ sym first in
+    let so_far = c.loop-p.invariant.count in
+    elim c.if-not-is_empty.branch [
+      | then-not-is_empty w ↦
+          let is = ap (λ k. k.items) w.kernel-is in
+          let v_is = w.as_slice.ensures.value ∙ w.point_difference.ensures in
+          let count = w.kernel_with-kernel.ensures.count in
+          let same = ap length is in
+          record {
+            kernel = subst (IsPrimitiveKernel (length f) (from f (take (i + 1) others))) (sym is)
+                (next_kernel (length f) f others i p w.as_slice.result.now ks ks w.kernel_with-kernel.result.items c.loop-p-test.true c.p-item.is
+                v_is (ap length v_is ∙ own) refl w.kernel_with-kernel.ensures.kernel c.loop-p.invariant.kernel);
+            count = omega (arith, count, same);
+          }
+      | else-not-is_empty w ↦
+          let is = ap (λ k. k.items) w.kernel-is in
+          let same = ap length is in
+          let none : length ks ≡ 0 = search rules in
+          record {
+            kernel = subst (IsPrimitiveKernel (length f) (from f (take (i + 1) others))) (sym is)
+                (next_kernel (length f) f others i p (difference p f) ks ks ks c.loop-p-test.true c.p-item.is refl own refl
+                (without_pivot (length (difference p f)) ks (difference p f) ks refl (λ k d l. absurd (omega (arith, none))))
+                c.loop-p.invariant.kernel);
+            count = omega (arith, same);
+          }
+    ]
 
 -- the kernel after the loop
 whole : (c : After-loop-p) → IsPrimitiveKernel (dimension_of c.args.points.now) (differences c.args.points.now) c.loop-p.kernel.items
