@@ -5,3 +5,4 @@ pub mod Splits
 pub mod LowPowers
 pub mod HighPowers
 pub mod ProductDegrees
+pub mod KeySums

@@ -1,5 +1,7 @@
 -- The laws of products, as statements.
-use Rattle.std.specs.Prelude.{◌≡◌, ℕ, ◌+◌, ℤ, pos, ◌-ℤ◌, ◌*ℤ◌}
+use Rattle.std.specs.Prelude.{◌≡◌, ℕ, List, ◌==◌, ◌<◌, ◌+◌, ℤ, pos, ◌-ℤ◌, ◌*ℤ◌}
+use Rattle.std.specs.List.{Contains, filter, range_with_len}
+use Rattle.polynomial_theory.specs.Sums.{sum_over}
 use Rattle.polynomial_theory.specs.Series.{Series, LaurentSeries, HasDegreeAtMost, HasNoPowerBelow, HasNoPowerAbove, product, times, times_at_ratio, times_at_product, monomial}
 
 -- what multiplies may be exchanged: A(u^s v) B(u^t v) f is B(u^t v) A(u^s v) f
@@ -30,3 +32,8 @@ HighestPowers = (k m n : ℕ) (A : Series) (f : LaurentSeries) → HasDegreeAtMo
 -- the degree of a product is at most the sum of those of its factors
 abbrev pub ProductDegree : Type 0
 ProductDegree = (m n : ℕ) (A B : Series) → HasDegreeAtMost m A → HasDegreeAtMost n B → HasDegreeAtMost (m + n) (product A B)
+
+-- a sum over a list is the sum, over the keys, of the sums of what has the key
+abbrev pub SumByKey : Type 0
+SumByKey = (xs : List ℕ) (key : ℕ → ℕ) (n : ℕ) (f : ℕ → ℤ) → ((x : ℕ) → Contains xs x → key x < n)
+    → sum_over xs f ≡ sum_over (range_with_len 0 n) (λ r. sum_over (filter (λ x. key x == r) xs) f)

@@ -1,5 +1,5 @@
-//! Products.
-ghost use Rattle.polynomial_theory.specs.Laws.{FactorsExchange, ProductIsBothFactors, CoefficientIsOneProduct};
+//! Products and sums.
+ghost use Rattle.polynomial_theory.specs.Laws.{FactorsExchange, ProductIsBothFactors, CoefficientIsOneProduct, SumByKey};
 
 /// Two factors that are put in at powers of u times v may be exchanged.
 pub fn factors_exchange()
@@ -14,4 +14,9 @@ pub fn product_is_both_factors()
 /// Each coefficient of A(v/u) B(uv) c u^r is c times one product of a coefficient of A and one of B, or 0.
 pub fn coefficient_is_one_product()
     ensures { CoefficientIsOneProduct }
+{}
+
+/// A sum over a list is the sum, over the keys of its members, of the sums of what has the key.
+pub fn sum_by_key()
+    ensures { SumByKey }
 {}

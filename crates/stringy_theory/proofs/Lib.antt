@@ -6,3 +6,4 @@ pub mod HighPowers
 pub mod RisingRanks
 pub mod RankedTables
 pub mod SmallNumbers
+pub mod GapSums

@@ -1,9 +1,9 @@
 -- The laws of stringy numbers, as statements.
-use Rattle.std.specs.Prelude.{◌≡◌, ℕ, ◌-◌, ◌*◌, ◌^◌, ◌<◌, ◌≤◌, true, ℤ, pos, ◌*ℤ◌, nat_abs, suc, ◌≤ℤ◌, List}
-use Rattle.std.specs.List.{Contains}
+use Rattle.std.specs.Prelude.{◌≡◌, ℕ, ◌==◌, ◌-◌, ◌*◌, ◌^◌, ◌<◌, ◌≤◌, true, ℤ, pos, ◌*ℤ◌, nat_abs, suc, ◌≤ℤ◌, List}
+use Rattle.std.specs.List.{Contains, filter, range_with_len}
 use Rattle.polynomial_theory.specs.Sums.{sum_over, sign}
-use Rattle.polynomial_theory.specs.Series.{Series, HasNoPowerBelow, HasNoPowerAbove, times_at_ratio, times_at_product, power_of_minus_u}
-use Rattle.stringy_theory.specs.Eulerian.{Order, IsGraded, IsG, IsGDual, g, g_dual}
+use Rattle.polynomial_theory.specs.Series.{Series, product, power, t_minus_1, HasNoPowerBelow, HasNoPowerAbove, times_at_ratio, times_at_product, power_of_minus_u}
+use Rattle.stringy_theory.specs.Eulerian.{Order, members_above, sum_above, IsGraded, IsG, IsGDual, g, g_dual}
 use Rattle.stringy_theory.specs.HStar.{alternating, differences_of}
 use Rattle.stringy_theory.specs.FaceSeries.{FaceSeries, IsRanked, HaveSmallDegrees, HaveSmallDualDegrees, HaveSmallCoefficients, faces_from}
 use Rattle.stringy_theory.specs.Stringy.{numerator, b, s_tilde, s_tilde_dual}
@@ -85,3 +85,9 @@ STildeIsSmall = (d : FaceSeries ℕ) → HaveSmallCoefficients d → (f : ℕ) �
 -- and those of the numerator at most 2^120
 abbrev pub NumeratorIsSmall : Type 0
 NumeratorIsSmall = (d : FaceSeries ℕ) → IsRanked d → HaveSmallCoefficients d → (p q : ℕ) → nat_abs (numerator d (pos p) q) ≤ 2 ^ 120
+
+-- the sum that G is made of is a sum, gap by gap, of a power of t - 1 times the sum of the G of what is so far above
+abbrev pub GByGaps : Type 0
+GByGaps = (o : Order ℕ) (G : ℕ → ℕ → Series) (x y n : ℕ) → ((z : ℕ) → Contains (members_above o x y) z → o.gap x z - 1 < n) → (k : ℕ)
+    → sum_above o G x y k ≡ sum_over (range_with_len 0 n) (λ r. product (power t_minus_1 r)
+    (λ j. sum_over (filter (λ z. (o.gap x z - 1) == r) (members_above o x y)) (λ z. G z y j)) k)
