@@ -1,0 +1,5 @@
+pub mod KeptVectors
+pub mod VectorSteps
+pub mod Tables
+pub mod PairFacts
+pub mod ConeMade
