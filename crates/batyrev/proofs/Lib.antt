@@ -1,0 +1,3 @@
+pub mod FacesBetween
+pub mod LevelSums
+pub mod PairNumbers

@@ -1,0 +1,11 @@
+//! Batyrev's numbers of a reflexive polytope and its dual. It stands on `dual_pair` for both sides and for the points in the interior of faces, on
+//! `face_poset` for the table of faces, and on the laws of `batyrev_theory`, in which the numbers are defined.
+//!
+//! Its central theorem: the numbers that are told are those of the polytope, exactly in dimension 3, 4 and 5 (`hodge`).
+#![tactic(auto)]
+
+mod coranks;
+mod line;
+mod sums;
+
+pub use line::{HodgeLine, hodge};
