@@ -4,3 +4,4 @@ pub mod RowCopies
 pub mod ListedFaces
 pub mod TopRanks
 pub mod Built
+pub mod FaceCounts

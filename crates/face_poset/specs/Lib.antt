@@ -1,4 +1,5 @@
 pub mod Faces
+pub mod Counts
 pub mod Builds
 pub mod ListSteps
 pub mod RowSteps

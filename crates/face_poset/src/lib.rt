@@ -13,7 +13,7 @@ mod list;
 mod rows;
 mod table;
 
-pub use laws::top_rank_bound;
+pub use laws::{face_counts_are_single, table_counts_faces, top_rank_bound};
 pub use table::{BuildFault, FaceTable};
 
 #[cfg(test)]

@@ -202,7 +202,8 @@ impl FaceTable {
 
     /// How many faces have a rank.
     pub fn counts(&self, rank: u32) -> u32
-        ensures { result ≡ count_by (λ face. face.rank == rank) self.now.faces }
+        ensures value { result ≡ count_by (λ face. face.rank == rank) self.now.faces }
+        ensures few { length self.now.faces ≤ MOST_FACES }
     {
         let mut count = 0;
         for face in 0..self.list.len() {

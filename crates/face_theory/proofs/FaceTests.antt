@@ -45,7 +45,7 @@ later_apart : (x : List Bool) (some : List (List Bool)) → AllPairs (λ a b. a 
 later_apart x some a i j d l m = a (suc i) (suc j) d (omega arith) (omega arith)
 
 -- members that all differ are no more than the members of a list that has them
-fewer : (some all : List (List Bool)) → AllPairs (λ a b. a ≢ b) some → ((y : List Bool) → In y some → In y all) → length some ≤ length all
+pub fewer : (some all : List (List Bool)) → AllPairs (λ a b. a ≢ b) some → ((y : List Bool) → In y some → In y all) → length some ≤ length all
 fewer [] all a f = omega arith
 fewer (x ∷ some) all a f =
     let w = without (f x here) in

@@ -52,6 +52,8 @@ pub enum LimitName {
     DualSize,
     /// The number of the dual's lattice points.
     DualPoints,
+    /// The number of faces.
+    Faces,
     /// The number of parts of a nef partition.
     Codim,
     /// The dimension and the number of parts, together.

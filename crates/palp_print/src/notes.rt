@@ -52,6 +52,7 @@ fn name_of(limit: LimitName) -> &'static [u8]
         LimitName::Points => b"Points",
         LimitName::DualSize => b"DualSize",
         LimitName::DualPoints => b"DualPoints",
+        LimitName::Faces => b"Faces",
         LimitName::Codim => b"Codim",
         LimitName::Rank => b"Rank",
         LimitName::ScanM => b"ScanM",

@@ -121,5 +121,7 @@ fn prints_notes(rt: HostRuntime) {
     assert!(rt; note_line(&refused).as_slice() == b"palp: item 1: flat: -1 1 0\n".as_slice());
     let limit = Note::Refused(3, Refusal::Limit(LimitName::Points, 16_385));
     assert!(rt; note_line(&limit).as_slice() == b"palp: item 3: limit Points: 16385\n".as_slice());
+    let faces = Note::Refused(2, Refusal::Limit(LimitName::Faces, 4_097));
+    assert!(rt; note_line(&faces).as_slice() == b"palp: item 2: limit Faces: 4097\n".as_slice());
     assert!(rt; note_line(&Note::TextLimit).as_slice() == b"palp: text limit\n".as_slice());
 }
