@@ -3,3 +3,4 @@ pub mod VectorSteps
 pub mod Tables
 pub mod PairFacts
 pub mod ConeMade
+pub mod TopRanks

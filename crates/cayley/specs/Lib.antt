@@ -3,3 +3,4 @@ pub use Rattle.cayley_theory.specs.Cones
 pub mod Limits
 pub mod PairCones
 pub mod ConeSteps
+pub mod Laws

@@ -10,12 +10,14 @@
 #![tactic(auto)]
 
 mod cone;
+mod laws;
 mod limits;
 mod scans;
 mod tight;
 mod vectors;
 
 pub use cone::Cone;
+pub use laws::cone_top_rank_bound;
 pub use limits::{MOST_RANK, MOST_SCANNED};
 pub use scans::{rank_limits, scan_limits};
 
