@@ -7,3 +7,4 @@ mod Listing
 mod Places
 mod Fronts
 mod FirstSystems
+pub mod Refuting

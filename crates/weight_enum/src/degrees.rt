@@ -8,13 +8,15 @@ ghost use Rattle.weight_enum.specs.steps.Listing.{IsCompleted, AddsSystems, IsRe
 
 use crate::cuts::{first_weight, most_weight};
 use crate::interior::is_system;
+use crate::refuters::Refuters;
 use lattice_core::{NoMemory, Point, WeightSystem};
 use std::alloc::Global;
 
-/// The systems that were found, and room for tails.
+/// The systems that were found, room for tails, and functions that refuted others.
 #[derive(Drop)]
 struct Found {
     tails: Vec<Point>,
+    refuters: Refuters,
     systems: Vec<WeightSystem>,
 }
 
@@ -31,7 +33,13 @@ fn add_if_system(
     ensures { OnOk result (AddsSystems (IsCompleted degree (length weights.now) weights.now) degree
         (weighted_all found.old.systems.items) (weighted_all found.new.systems.items)) }
 {
-    if is_system(alloc, weights, degree, &mut found.tails)? {
+    if is_system(
+        alloc,
+        weights,
+        degree,
+        &mut found.tails,
+        &mut found.refuters,
+    )? {
         let weights = Vec::from_slice(alloc, weights)?;
         found.systems.push(WeightSystem { degree, weights })?;
     }
@@ -89,6 +97,7 @@ pub fn systems_of_degree(
     let mut weights = Vec::from_elem(alloc, 0, count)?;
     let mut found = Found {
         tails: Vec::new(alloc),
+        refuters: Refuters::new(alloc),
         systems: Vec::new(alloc),
     };
     add_systems(alloc, &mut weights, degree, 0, 1, degree, &mut found)?;

@@ -7,6 +7,7 @@ ghost use Rattle.interior_point_theory.specs.Interior.{HasInteriorPoint, IsInter
 ghost use Rattle.weight_enum.specs.Taken.{AreTaken};
 
 use crate::primitive::is_primitive;
+use crate::refuters::Refuters;
 use crate::weights::{is_ascending, sum_of};
 use hull::all_facets;
 use lattice_core::{Fault, Functional, NoMemory, Point};
@@ -21,19 +22,26 @@ fn are_positive(facets: &[Functional]) -> bool
 }
 
 /// Whether the system of weights and their sum as the degree has an interior point: their tails aren't flat, and each facet of them has a positive
-/// constant. What `tails` held is lost.
+/// constant. What `tails` held is lost. The refuters spare facets.
 fn has_interior(
     alloc: Global,
     weights: &[u64],
     degree: u64,
     tails: &mut Vec<Point>,
+    refuters: &mut Refuters,
 ) -> Result<bool, NoMemory>
     requires taken { AreTaken degree weights.now }
     ensures { IfOk result (λ b. IsTrue b ↔ HasInteriorPoint (system_of degree weights.now)) }
 {
     tails_of(alloc, weights, degree, tails)?;
+    if refuters.refute(tails, weights.len() - 1) {
+        return Ok(false);
+    }
     match all_facets(alloc, tails) {
-        Ok(facets) => Ok(are_positive(&facets)),
+        Ok(facets) => {
+            refuters.keep(&facets)?;
+            Ok(are_positive(&facets))
+        }
         Err(Fault::NoMemory) => Err(NoMemory),
         Err(Fault::Refused(_)) => Ok(false),
     }
@@ -45,6 +53,7 @@ pub(crate) fn is_system(
     weights: &[u64],
     degree: u64,
     tails: &mut Vec<Point>,
+    refuters: &mut Refuters,
 ) -> Result<bool, NoMemory>
     requires taken { AreTaken degree weights.now }
     requires ascends { Ascends (λ v w. v ≤ w) weights.now }
@@ -53,7 +62,7 @@ pub(crate) fn is_system(
     if !is_primitive(weights) {
         return Ok(false);
     }
-    has_interior(alloc, weights, degree, tails)
+    has_interior(alloc, weights, degree, tails, refuters)
 }
 
 /// Whether the weights, with their sum as the degree, are an interior-point weight system: they don't descend, their greatest common divisor is 1,
@@ -67,5 +76,6 @@ pub fn is_ip(alloc: Global, weights: &[u64]) -> Result<bool, NoMemory>
         return Ok(false);
     }
     let mut tails = Vec::new(alloc);
-    is_system(alloc, weights, sum_of(weights), &mut tails)
+    let mut refuters = Refuters::new(alloc);
+    is_system(alloc, weights, sum_of(weights), &mut tails, &mut refuters)
 }

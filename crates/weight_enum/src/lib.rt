@@ -1,8 +1,8 @@
 //! Interior-point weight systems: whether weights are one, and all of a range of degrees, in order.
 //!
-//! The crate stands on `weight_tails` for the points by which a system is told, on `hull` for their facets, and on the laws of
-//! `interior_point_theory`. Its central theorem: a search gives exactly the interior-point systems of its range of degrees, each once, by degree and
-//! then by weights; `is_ip` answers true exactly for such systems.
+//! The crate stands on `weight_tails` for the points by which a system is told, on `weight_certificates` for functions that refute it, on `hull` for
+//! their facets, and on the laws of `interior_point_theory`. Its central theorem: a search gives exactly the interior-point systems of its range of
+//! degrees, each once, by degree and then by weights; `is_ip` answers true exactly for such systems.
 #![tactic(auto)]
 
 mod cuts;
@@ -10,6 +10,7 @@ mod degrees;
 mod interior;
 mod laws;
 mod primitive;
+mod refuters;
 mod search;
 mod weights;
 

@@ -8,8 +8,8 @@ pub returns : goal.returns
 returns c =
     let new = weighted_all c.add_systems.new.found.systems.items in
     let long : length c.deref_mut.result.now ≡ c.args.count = ap length c.deref_mut.ensures.value ∙ search rules in
-    let none : weighted_all c.new-2.result.items ≡ [] = ap weighted_all c.new-2.ensures.items in
-    let added = subst (λ (m : ℕ). AddsSystems (IsCompleted c.args.degree m []) c.args.degree (weighted_all c.new-2.result.items) new) long
+    let none : weighted_all c.new-3.result.items ≡ [] = ap weighted_all c.new-3.ensures.items in
+    let added = subst (λ (m : ℕ). AddsSystems (IsCompleted c.args.degree m []) c.args.degree (weighted_all c.new-3.result.items) new) long
     c.in_ok-add_systems.ensures.systems in
     systems_of_all c.args.degree c.args.count new
     (subst (λ (old : List Weighted). AddsSystems (IsCompleted c.args.degree c.args.count []) c.args.degree old new) none added)
