@@ -8,3 +8,4 @@ pub mod Completions
 pub mod RowAgreements
 pub mod BeginningSteps
 pub mod SearchSteps
+pub mod Giving

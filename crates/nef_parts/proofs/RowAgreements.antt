@@ -10,7 +10,7 @@ use Rattle.lattice_core.specs.Dimensions.{dimension_of}
 use Rattle.bit_rows.specs.Rows.{HasIndex}
 use Rattle.nef_theory.specs.Nef.{part_at, pairing_at, IsGrowthList, IsNefPartition}
 use Rattle.nef_theory.specs.Reflexive.{AreAtLeastMinusOne}
-use Rattle.nef_theory.specs.Agreement.{StaysLow, AgreesInside, HasAgreeing, HaveAgreeingPoints}
+use Rattle.nef_theory.specs.Agreement.{StaysLow, Agrees, AgreesInside, HasAgreeing, HaveAgreeingPoints}
 use Rattle.nef_theory.proofs.Agreements.{nef_by_agreement_lem, agreement_splits_lem}
 use Rattle.nef_parts.specs.declared.masks.Candidate.{Candidate}
 use Rattle.nef_parts.specs.declared.masks.VertexMask.{VertexMask}
@@ -30,22 +30,26 @@ place_in (y ∷ xs) x (there i) = let r = place_in xs x i in (suc r.0, (omega (a
 module _ (n : ℕ) (normals points : List (List ℤ)) (least : AreAtLeastMinusOne n normals points) (m : List ℤ) (mask : VertexMask)
     (is : IsMask normals points m mask) (b : List ℕ) (g : Beginning) (begins : IsBeginning b g) (i : ℕ) (part : i < 3) where
   -- a candidate that agrees with all part numbers is a point that does
+  pub candidate_agrees : length b ≡ length normals → (c : Candidate) → Contains mask.candidates.items c
+      → RowsAgree mask.tight (row_of g.parts i) g.told c.tight → Agrees normals (length normals) b m i (vector_at points c.place)
+  candidate_agrees whole c member rows =
+      let cand = All-contains (IsCandidate normals points m) mask.candidates.items c is.sound member in
+      let x = vector_at points c.place in
+      (agreement_splits_lem normals (length normals) b m i x (λ e h. ((least x).0 (Contains-get_or points c.place [] cand.within)).1 e h)).1 (
+        cand.low,
+        record {
+          own = λ e h t p. ((cand.row e).0 (rows.at_own e ((begins.parts i part e).1 (omega (arith, h, whole), p)) ((is.tight e).1 (h, t)))).1;
+          inside = λ e h t. ((begins.parts i part e).0 (rows.only_own e ((cand.row e).1 (h, t)) ((begins.told e).1 (omega (arith, h, whole))))).1;
+        },
+      )
+
   pub some_agreeing : length b ≡ length normals → SomeAgrees mask g i → HasAgreeing normals points (length normals) b m i
   some_agreeing whole s =
-      let c = s.0 in
-      let cand = All-contains (IsCandidate normals points m) mask.candidates.items c is.sound s.1.0 in
-      let x = vector_at points c.place in
-      let member = Contains-get_or points c.place [] cand.within in
+      let cand = All-contains (IsCandidate normals points m) mask.candidates.items s.0 is.sound s.1.0 in
       record {
-        point = x;
-        member = member;
-        agrees = (agreement_splits_lem normals (length normals) b m i x (λ e h. ((least x).0 member).1 e h)).1 (
-          cand.low,
-          record {
-            own = λ e h t p. ((cand.row e).0 (s.1.1.at_own e ((begins.parts i part e).1 (omega (arith, h, whole), p)) ((is.tight e).1 (h, t)))).1;
-            inside = λ e h t. ((begins.parts i part e).0 (s.1.1.only_own e ((cand.row e).1 (h, t)) ((begins.told e).1 (omega (arith, h, whole))))).1;
-          },
-        );
+        point = vector_at points s.0.place;
+        member = Contains-get_or points s.0.place [] cand.within;
+        agrees = candidate_agrees whole s.0 s.1.0 s.1.1;
       }
 
   -- where a point agrees with a longer list, a candidate agrees with its beginning
@@ -75,7 +79,7 @@ module _ (n : ℕ) (normals points : List (List ℤ)) (least : AreAtLeastMinusOn
       }
 
 -- some member of a list that has a place
-filled : (masks : List VertexMask) (v : ℕ) → v < length masks → VertexMask
+pub filled : (masks : List VertexMask) (v : ℕ) → v < length masks → VertexMask
 filled [] v h = absurd (omega arith)
 filled (mask ∷ masks) v h = mask
 

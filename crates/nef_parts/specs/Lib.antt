@@ -1,4 +1,5 @@
 pub mod Lists
 pub mod Partitions
 pub mod Listing
+pub mod Given
 pub mod steps

@@ -4,3 +4,4 @@ pub mod Beginnings
 pub mod Agreeing
 pub mod Completions
 pub mod Nef
+pub mod Searches

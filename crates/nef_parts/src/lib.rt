@@ -1,15 +1,18 @@
-//! Nef partitions of a reflexive polytope's dual: for each vertex the lattice points that may be the points of parts there, as rows of bits. It
-//! stands on `nef_theory` for what partitions are and what a search through them may rest on, and on `dual_pair` for the polytopes.
+//! Nef partitions of a reflexive polytope's dual: for each vertex the lattice points that may be the points of parts there, as rows of bits, and a
+//! search through the lists of part numbers. It stands on `nef_theory` for what partitions are and what a search through them may rest on, and on
+//! `dual_pair` for the polytopes.
 //!
-//! Its central theorem: the points that are kept for a vertex are exactly those that are nowhere above 0 where the vertex is at -1
-//! (`Masks::of`).
+//! Its central theorem: a search gives exactly the nef partitions, all of them, each once and in lexicographic order, and ends behind the
+//! last one (`NefSearch::next`).
 #![tactic(auto)]
 
 mod agreeing;
 mod beginnings;
 mod masks;
 mod pairings;
+mod partitions;
 mod search;
 
 pub use beginnings::MOST_PARTS;
 pub use masks::Masks;
+pub use partitions::NefSearch;

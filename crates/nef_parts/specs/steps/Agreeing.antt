@@ -1,5 +1,5 @@
 -- Agreement, as rows of places tell it. This project's own.
-use Rattle.std.specs.Prelude.{◌≡◌, ℕ, ◌<◌, List, length, slice_index_or}
+use Rattle.std.specs.Prelude.{◌≡◌, ℕ, ◌<◌, ◌/◌, ◌%◌, List, length, slice_index_or}
 use Rattle.std.specs.List.{Contains}
 use Rattle.bit_rows.specs.Rows.{HasIndex}
 use Rattle.nef_parts.specs.declared.beginnings.Beginning.{Beginning}
@@ -25,3 +25,12 @@ AllAgree masks g r = (v : ℕ) (d : VertexMask) → v < length masks → (i : �
 pub record AgreesAt (candidates : List Candidate) (tight own told place : ℕ) : Type 0 where
   pub within : place < length candidates
   pub agrees : (d : Candidate) → RowsAgree tight own told (slice_index_or candidates place d).tight
+
+-- the place of a candidate that agrees with the beginning, for the part i
+abbrev pub HasAgreeingPlace : VertexMask → Beginning → ℕ → ℕ → Type 0
+HasAgreeingPlace mask g i place = (c : Candidate)
+    × ((Contains mask.candidates.items c × (c.place ≡ place)) × RowsAgree mask.tight (row_of g.parts i) g.told c.tight)
+
+-- the same of the vertex and the part at a place of a table with r columns
+abbrev pub AgreesIn : List VertexMask → Beginning → ℕ → ℕ → ℕ → Type 0
+AgreesIn masks g r k place = (d : VertexMask) → HasAgreeingPlace (slice_index_or masks (k / r) d) g (k % r) place

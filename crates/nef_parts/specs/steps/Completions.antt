@@ -38,3 +38,8 @@ FollowsOn P old new false = (z : List ℕ) → P z → NumbersLess old z → ⊥
 abbrev pub Begins : (List ℕ → Type 0) → List ℕ → Bool → Type 0
 Begins P new true = P new × ((c : List ℕ) → P c → AtMost new c)
 Begins P new false = (c : List ℕ) → P c → ⊥
+
+-- the first of these steps, or a further one
+abbrev pub Steps : (List ℕ → Type 0) → Bool → List ℕ → List ℕ → Bool → Type 0
+Steps P true old new found = FollowsOn P old new found
+Steps P false old new found = Begins P new found
