@@ -29,7 +29,7 @@ module _ (job : Job) (flags : PolyFlags) (is : job ≡ Poly flags) (built : IsBu
   abbrev entry : Entry
   entry = TextItem item
 
-  pub refused_item : (cause : Refusal) → IsItemRefused item cause → GivesItem (Says job) entry (Ends cause) out out
+  pub refused_item : (cause : Refusal) → IsItemRefused flags item cause → GivesItem (Says job) entry (Ends cause) out out
   refused_item cause a = item_closed (Says job) out out entry 0 (item_nothing (Says job) out entry) (Ends cause)
       (built_says job flags item 0 _ is built (refused a))
 
@@ -37,7 +37,7 @@ module _ (job : Job) (flags : PolyFlags) (is : job ≡ Poly flags) (built : IsBu
   no_piece = item_front (Says job) out out entry 0 (item_nothing (Says job) out entry)
 
   -- an item that stops
-  pub stopped_item : (fault : Fault) (told : ItemFault) → Stops (IsItemRefused item) fault → IsItemStop fault told
+  pub stopped_item : (fault : Fault) (told : ItemFault) → Stops (IsItemRefused flags item) fault → IsItemStop fault told
       → EntryMeans (Err told) job entry out out
   stopped_item (faults.Refused cause) told s e =
       subst (λ (t : ItemFault). EntryMeans (Err t) job entry out out) (sym e) (refused_item cause s)

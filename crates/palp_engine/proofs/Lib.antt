@@ -2,6 +2,7 @@ pub mod CountedPoints
 pub mod SingleAnswers
 pub mod PrintedPolytopes
 pub mod Pieces
+pub mod FoundFaces
 pub mod HullStops
 pub mod SingleItems
 pub mod SingleReports

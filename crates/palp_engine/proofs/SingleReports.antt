@@ -26,7 +26,7 @@ says_one_piece flags item _ _ _ (printed {bytes = p} a) (printed {bytes = q} b) 
 says_one_piece flags item _ _ _ (printed {bytes = p} a) (refused {cause = c} b) = absurd (piece_or_refusal flags item p c a b)
 says_one_piece flags item _ _ _ (refused {cause = c} a) (printed {bytes = p} b) = absurd (piece_or_refusal flags item p c b a)
 says_one_piece flags item _ _ _ (refused {cause = c} a) (refused {cause = d} b) =
-    ap (λ (x : Refusal). Close (Ends x)) (one_item_refusal item c d a b)
+    ap (λ (x : Refusal). Close (Ends x)) (one_item_refusal flags item c d a b)
 says_one_piece flags item _ _ _ whole whole = refl
 
 pub says_one : (job : Job) → SaysOne (Says job)

@@ -10,10 +10,10 @@ use Rattle.palp_input.specs.Grammar.{Listed}
 use Rattle.palp_engine.specs.Items.{IsItemRefused, IsPiece}
 use Rattle.palp_engine.specs.Entries.{Entry, TextItem, ListSystem, ListEnd}
 
--- the letters that are built: the general line in its form without a dual, the points, the vertices, the facets and the pairing
+-- the letters that are built: the general line in its form without a dual, the points, the vertices, the facets, the pairing and the
+-- incidences
 abbrev pub are_built : PolyFlags → Bool
-are_built flags = not flags.dual_points && (not flags.incidence && (not flags.reflexive_only && (not flags.dual_input
-    && (flags.plain || not flags.general))))
+are_built flags = not flags.dual_points && (not flags.reflexive_only && (not flags.dual_input && (flags.plain || not flags.general)))
 
 -- the job is built: `poly` with such letters
 abbrev pub IsBuilt : Job → Type 0
@@ -45,7 +45,7 @@ pub record AreUnbuilt (words : List (List ℕ)) : Type 0 where
 pub data BlocksSay (flags : PolyFlags) (item : Listed) : ℕ → Step Refusal → Type 0 where
   printed : {bytes : List ℕ} → IsPiece flags item bytes → BlocksSay flags item 0 (Piece bytes)
   whole : BlocksSay flags item 1 (Close Whole)
-  refused : {cause : Refusal} → IsItemRefused item cause → BlocksSay flags item 0 (Close (Ends cause))
+  refused : {cause : Refusal} → IsItemRefused flags item cause → BlocksSay flags item 0 (Close (Ends cause))
 
 -- What `poly` says of an entry, which is an item of a text.
 abbrev pub PolySays : PolyFlags → Entry → ℕ → Step Refusal → Type 0

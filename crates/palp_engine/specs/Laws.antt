@@ -36,12 +36,13 @@ OnePiece = (flags : PolyFlags) (item : Listed) (piece other : List ℕ) → IsPi
 
 -- an item is refused for no two causes
 abbrev pub OneItemRefusal : Type 0
-OneItemRefusal = (item : Listed) (cause other : Refusal) → IsItemRefused item cause → IsItemRefused item other → cause ≡ other
+OneItemRefusal = (flags : PolyFlags) (item : Listed) (cause other : Refusal) → IsItemRefused flags item cause → IsItemRefused flags item other
+    → cause ≡ other
 
 -- an item that has a piece isn't refused
 abbrev pub PieceOrRefusal : Type 0
 PieceOrRefusal = (flags : PolyFlags) (item : Listed) (piece : List ℕ) (cause : Refusal) → IsPiece flags item piece
-    → IsItemRefused item cause → ⊥
+    → IsItemRefused flags item cause → ⊥
 
 -- a job reports on one list of entries of a text, which ends in one way
 abbrev pub OneListOfEntries : Type 0

@@ -9,4 +9,5 @@ pub mod Notes
 pub mod Sessions
 pub mod Runs
 pub mod RunSteps
+pub mod FaceSteps
 pub mod Laws

@@ -20,7 +20,7 @@ use Rattle.palp_input.specs.declared.fault.NextFault.{NextFault}
 use Rattle.palp_input.specs.declared.fault.NextFault.TheVariants.{Text, TooLong, Read, NoMemory as NoTextMemory}
 use Rattle.facet_theory.specs.Solid.{AreSolid}
 use Rattle.palp_print.specs.Lists.{body_line}
-use Rattle.palp_print.specs.Blocks.{columns, pairing, AreFunctions, ArePaired}
+use Rattle.palp_print.specs.Blocks.{columns, pairing, incidence, AreFunctions, ArePaired}
 use Rattle.palp_print.specs.declared.titles.Title.TheVariants.{Vertices as VertexColumns, Points as PointColumns}
 use Rattle.palp_engine.specs.Items.{item_echo, facet_block, asked}
 use Rattle.palp_engine.specs.Reports.{HaveFewPoints}
@@ -68,14 +68,15 @@ pub record ArePrinted (listed : Bool) (polytope : Polytope) : Type 0 where
   pub facets : AreFunctions polytope.facets.items
   pub paired : ArePaired polytope.facets.items polytope.vertices.items
 
--- the blocks that the letters ask of an item whose polytope was worked out
-abbrev pub blocks_of : PolyFlags → Listed → Polytope → List ℕ
-blocks_of flags item polytope =
+-- the blocks that the letters ask of an item whose polytope was worked out, with the numbers of its faces where they are asked
+abbrev pub blocks_of : PolyFlags → Listed → Polytope → List ℕ → List ℕ
+blocks_of flags item polytope counts =
     asked flags.general (item_echo item ++ body_line polytope.count (length polytope.vertices.items) (length polytope.facets.items))
     ++ (asked flags.points (columns PointColumns polytope.lattice.items)
     ++ (asked flags.vertices (columns VertexColumns polytope.vertices.items)
     ++ (asked flags.equations (facet_block polytope.facets.items)
-    ++ asked flags.matrix (pairing polytope.facets.items polytope.vertices.items))))
+    ++ (asked flags.matrix (pairing polytope.facets.items polytope.vertices.items)
+    ++ asked flags.incidence (incidence counts polytope.facets.items polytope.vertices.items)))))
 
 -- what is kept of points that aren't refused: the number of their lattice points, all of them where they are listed, vertices and facets
 pub record IsPolytope (points : List (List ℤ)) (listed : Bool) (polytope : Polytope) : Type 0 where

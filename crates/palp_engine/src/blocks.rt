@@ -4,7 +4,7 @@ ghost use Rattle.std.specs.Prelude.{◌≡◌, ◌++◌, IsTrue, length, OnOk};
 ghost use Rattle.lattice_core.specs.PointLists.{ArePoints};
 ghost use Rattle.palp_input.specs.Grammar.{listed};
 ghost use Rattle.palp_print.specs.Lists.{body_line};
-ghost use Rattle.palp_print.specs.Blocks.{AreFunctions, ArePaired, columns, pairing};
+ghost use Rattle.palp_print.specs.Blocks.{AreFunctions, ArePaired, columns, pairing, incidence};
 ghost use Rattle.palp_print.specs.declared.titles.Title.TheVariants as Title;
 ghost use Rattle.palp_engine.specs.Items.{item_echo, have_ones, facet_block, asked};
 ghost use Rattle.palp_engine.specs.RunSteps.{ArePrinted, blocks_of};
@@ -89,19 +89,44 @@ fn put_pairing(
     page.pairing(facets, vertices)
 }
 
-/// Appends the blocks that the letters ask.
+/// Appends the numbers of faces and the incidences of facets and vertices, where they are asked.
+fn put_incidence(
+    page: &mut Page,
+    on: bool,
+    counts: &[u32],
+    facets: &[Functional],
+    vertices: &[Point],
+) -> Result<(), NoMemory>
+    requires { ArePaired facets.now vertices.now }
+    ensures { OnOk result (page.new ≡ page.old ++ asked on (incidence counts.now facets.now vertices.now)) }
+{
+    if !on {
+        return Ok(());
+    }
+    page.incidence(counts, facets, vertices)
+}
+
+/// Appends the blocks that the letters ask. `counts` are the numbers of faces of the dimensions from 0 on, where they are asked.
 pub(crate) fn put_blocks(
     page: &mut Page,
     flags: &PolyFlags,
     item: &Item,
     polytope: &Polytope,
+    counts: &[u32],
 ) -> Result<(), NoMemory>
     requires { ArePrinted flags.now.points polytope.now }
-    ensures { OnOk result (page.new ≡ page.old ++ blocks_of flags.now (listed item.now) polytope.now) }
+    ensures { OnOk result (page.new ≡ page.old ++ blocks_of flags.now (listed item.now) polytope.now counts.now) }
 {
     put_general(page, flags.general, item, polytope)?;
     put_columns(page, flags.points, Title::Points, &polytope.lattice)?;
     put_columns(page, flags.vertices, Title::Vertices, &polytope.vertices)?;
     put_facets(page, flags.equations, &polytope.facets)?;
-    put_pairing(page, flags.matrix, &polytope.facets, &polytope.vertices)
+    put_pairing(page, flags.matrix, &polytope.facets, &polytope.vertices)?;
+    put_incidence(
+        page,
+        flags.incidence,
+        counts,
+        &polytope.facets,
+        &polytope.vertices,
+    )
 }

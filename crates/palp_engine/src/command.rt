@@ -24,9 +24,6 @@ fn letters_are_built(flags: &PolyFlags) -> bool
     if flags.dual_points {
         return false;
     }
-    if flags.incidence {
-        return false;
-    }
     if flags.reflexive_only {
         return false;
     }
@@ -140,7 +137,8 @@ fn answer<S: Source, O: Sink>(alloc: Global, words: &[String], src: &mut S, out:
 ///
 /// `poly` reads the items of the source's text (docs/formats.md) and reports them one after another, each before it reads on: for each one the
 /// blocks that its letters ask. Built are `g` with `n`, the line `M:points vertices F:facets` behind the numbers of a weight line; `p`, the
-/// lattice points; `v`, the vertices; `e`, the facets; and `m`, the pairing of facets and vertices. `Done` comes where the whole
+/// lattice points; `v`, the vertices; `e`, the facets; `m`, the pairing of facets and vertices; and `i`, the numbers of faces and which vertices
+/// lie on which facets. `Done` comes where the whole
 /// report was given. `Refused` tells the first item that exceeds a limit (docs/limits.md) or is flat, `BadText` the first fault of the
 /// text, and `TextLimit` a text of more than 67,108,864 bytes; the items before are reported. Other commands are `NotBuilt`, and words that
 /// give none are `BadWords`; nothing is read then. `ReadFault` and `WriteFault` come only where the count of faults of the source, or of

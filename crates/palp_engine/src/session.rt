@@ -1,7 +1,10 @@
 //! A session, and the report of one item.
 
-ghost use Rattle.std.specs.Prelude.{◌≡◌, ◌↔◌, IsTrue, MatchResult};
+ghost use Rattle.std.specs.Prelude.{◌≡◌, ◌↔◌, ◌≤◌, IsTrue, MatchResult};
+ghost use Rattle.lattice_core.specs.Dimensions.{dimension_of};
 ghost use Rattle.lattice_core.specs.Stops.{Stops};
+ghost use Rattle.lattice_core.specs.PointLists.{ArePoints};
+ghost use Rattle.lattice_core.specs.declared.limits.TheConstants.{MOST_COORDINATES};
 ghost use Rattle.palp_words.specs.declared.job.Job.TheVariants as Job;
 ghost use Rattle.palp_input.specs.Grammar.{listed};
 ghost use Rattle.palp_input.specs.Items.{IsItem};
@@ -12,9 +15,10 @@ ghost use Rattle.palp_engine.specs.RunSteps.{IsWeightLine};
 ghost use Rattle.palp_engine.specs.Sessions.{EntryMeans};
 
 use crate::blocks::put_blocks;
+use crate::faces::Faces;
 use crate::polytopes::polytope_of;
 use item_points::points_of_item;
-use lattice_core::{Fault, NoMemory, Refusal};
+use lattice_core::{Fault, NoMemory, Point, Refusal};
 use palp_input::Item;
 use palp_io::{Gave, Sink};
 use palp_print::Page;
@@ -46,11 +50,12 @@ impl From<Fault> for ItemFault {
     }
 }
 
-/// What is kept between the reports of items: the page on which an item's piece is written.
+/// What is kept between the reports of items: the page on which an item's piece is written, and the room in which its faces are found.
 #[derive(Drop)]
 pub struct Session {
     alloc: Global,
     page: Page,
+    faces: Faces,
 }
 
 impl Model for Session {
@@ -60,11 +65,12 @@ impl Model for Session {
 }
 
 impl Session {
-    /// A session that has reported nothing. `NoMemory` comes where its page finds no memory.
+    /// A session that has reported nothing. `NoMemory` comes where its page, or the room for faces, finds no memory.
     pub fn open(alloc: Global) -> Result<Session, NoMemory> {
         Ok(Session {
             alloc,
             page: Page::new(alloc)?,
+            faces: Faces::open(alloc)?,
         })
     }
 }
@@ -79,15 +85,34 @@ fn is_weight_line(item: &Item) -> bool
     }
 }
 
+/// The number of coordinates of points.
+fn dimension(points: &[Point]) -> usize
+    requires { ArePoints points.now }
+    ensures value { result ≡ dimension_of points.now }
+    ensures most { result ≤ MOST_COORDINATES }
+{
+    points[0].dim()
+}
+
 /// Writes the piece of an item on a page, in place of what stood there, or answers its refusal.
-fn write_piece(alloc: Global, page: &mut Page, flags: &PolyFlags, item: &Item) -> Result<(), Fault>
+fn write_piece(
+    alloc: Global,
+    page: &mut Page,
+    faces: &mut Faces,
+    flags: &PolyFlags,
+    item: &Item,
+) -> Result<(), Fault>
     requires { IsItem (listed item.now) }
-    ensures { MatchResult result (λ _. IsPiece flags.now (listed item.now) page.new) (Stops (IsItemRefused (listed item.now))) }
+    ensures { MatchResult result
+        (λ _. IsPiece flags.now (listed item.now) page.new)
+        (Stops (IsItemRefused flags.now (listed item.now))) }
 {
     page.clear();
     let points = points_of_item(alloc, item)?;
+    let dim = dimension(&points);
     let polytope = polytope_of(alloc, points, is_weight_line(item), flags.points)?;
-    put_blocks(page, flags, item, &polytope)?;
+    let counts = faces.counts_of(alloc, flags.incidence, &polytope.facets, &polytope.vertices)?;
+    put_blocks(page, flags, item, &polytope, &counts[..dim])?;
     Ok(())
 }
 
@@ -105,8 +130,8 @@ fn letters_of(job: &Job) -> PolyFlags
 }
 
 /// Gives the pieces of one item to `out`, one after another, as the job says them. The job is `poly` with letters that are built; it says of an
-/// item one piece, the blocks that the letters ask: the general line, the lattice points, the vertices, the facets, and the pairing of facets
-/// and vertices. The item is one of a text. After every answer the session serves a next item.
+/// item one piece, the blocks that the letters ask: the general line, the lattice points, the vertices, the facets, the pairing of facets and
+/// vertices, and the numbers of faces with the incidences of facets and vertices. The item is one of a text. After every answer the session serves a next item.
 ///
 /// `Ok` comes only where the item isn't refused, and appends all its pieces. `Refused` comes only with the item's first refusal, behind the
 /// pieces before it, of which `poly` has none. `Write` comes only where the count of faults of `out` rose in this call, and `NoMemory` where
@@ -123,7 +148,13 @@ pub fn report_item<O: Sink>(
     ensures { EntryMeans result job.now (item_entry item.now) (O.state out.old) (O.state out.new) }
 {
     let flags = letters_of(job);
-    write_piece(session.alloc, &mut session.page, &flags, item)?;
+    write_piece(
+        session.alloc,
+        &mut session.page,
+        &mut session.faces,
+        &flags,
+        item,
+    )?;
     match out.give(session.page.bytes()) {
         Gave::All => Ok(()),
         Gave::Failed => Err(ItemFault::Write),

@@ -1,17 +1,9 @@
 //! The blocks of items.
 
-use crate::runs::{Case, TRIANGLE, are_answered, done};
+use crate::runs::{Case, TRIANGLE, are_answered, asked};
 use std::test::Fail;
 
 const SQUARE: &str = "4 2\n1 1\n1 -1\n-1 1\n-1 -1\n";
-
-/// The case of words whose report is given whole.
-fn asked(words: &'static [&'static str], text: &'static str, report: &'static str) -> Case {
-    Case {
-        words,
-        ..done(text, report)
-    }
-}
 
 #[test]
 fn blocks_are_printed_in_order(rt: HostRuntime) -> Result<(), Fail> {

@@ -9,6 +9,8 @@ mod blocks;
 #[cfg(test)]
 mod dilates;
 #[cfg(test)]
+mod faces;
+#[cfg(test)]
 mod hulls;
 #[cfg(test)]
 mod large_hulls;

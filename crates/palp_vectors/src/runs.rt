@@ -144,6 +144,18 @@ pub(crate) fn done(text: &'static str, report: &'static str) -> Case {
     }
 }
 
+/// The case of words whose report is given whole.
+pub(crate) fn asked(
+    words: &'static [&'static str],
+    text: &'static str,
+    report: &'static str,
+) -> Case {
+    Case {
+        words,
+        ..done(text, report)
+    }
+}
+
 /// Whether runs answer what each case says, on takes of one byte and of at most 7 bytes.
 pub(crate) fn are_answered(rt: &(impl Abort + AllocGlobal), cases: &[Case]) -> Result<bool, Fail> {
     for case in cases {

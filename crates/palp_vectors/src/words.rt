@@ -37,7 +37,7 @@ fn wrong_words_are_told(rt: HostRuntime) -> Result<(), Fail> {
         not_built(&["poly"]),
         not_built(&["poly", "-nr"]),
         not_built(&["poly", "-pg"]),
-        not_built(&["poly", "-ni"]),
+        not_built(&["poly", "-id"]),
         not_built(&["nef"]),
         not_built(&["cws", "-w2", "3", "6"]),
         not_built(&["sweep", "2", "3", "6"]),

@@ -1,0 +1,157 @@
+//! The faces of a polytope, and how many there are of each dimension.
+
+ghost use Rattle.std.specs.Prelude.{◌≡◌, ◌+◌, ◌≤◌, [], length, IsTrue, IfOk, IfErr, OnOk, MatchResult};
+ghost use Rattle.lattice_core.specs.Stops.{Stops};
+ghost use Rattle.face_theory.specs.Faces.{TightRelation};
+ghost use Rattle.face_theory.specs.Pairings.{valued};
+ghost use Rattle.face_poset.specs.Faces.{IsTableOf};
+ghost use Rattle.palp_engine.specs.Items.{HaveFewFaces};
+ghost use Rattle.palp_engine.specs.FaceSteps.{HasRowRoom, CanHaveFaces, IsHeldOf, IsFaceLimit, IsFaceStop};
+ghost use Rattle.lattice_core.specs.declared.limits.TheConstants.{MOST_FACETS, MOST_VERTICES};
+
+use bit_pool::{MOST_TURNS, RowPool};
+use face_poset::{BuildFault, FaceTable};
+use incidence::Incidence;
+use lattice_core::{
+    Fault, Functional, LimitName, MOST_COORDINATES, MOST_FACETS, MOST_VERTICES, NoMemory, Point,
+    Refusal,
+};
+use std::alloc::Global;
+use std::marker::Model;
+
+/// The room in which the faces of polytopes are found, one polytope after another. Contracts see the table of faces.
+#[derive(Drop)]
+pub(crate) struct Faces {
+    pool: RowPool,
+    table: FaceTable,
+}
+
+impl Model for Faces {
+    ghost use Rattle.face_poset.specs.Faces.{TableState};
+    ghost use Rattle.palp_engine.specs.FaceSteps.{HaveFaceRoom};
+
+    ghost Value = { TableState };
+
+    ghost view = { λ f. f.table };
+
+    ghost invariant = { λ f. HaveFaceRoom f.pool f.table };
+}
+
+/// A pool with room for the rows of the most vertices and facets.
+fn open_pool(alloc: Global) -> Result<RowPool, NoMemory>
+    ensures room { IfOk result HasRowRoom }
+    ensures empty { IfOk result (λ pool. pool.young_generation.rows ≡ []) }
+{
+    match RowPool::open(alloc, MOST_VERTICES, MOST_VERTICES + MOST_FACETS) {
+        Ok(pool) => Ok(pool),
+        Err(_) => Err(NoMemory),
+    }
+}
+
+/// A table for the most vertices and facets.
+fn open_table(alloc: Global) -> Result<FaceTable, NoMemory>
+    ensures members { IfOk result (λ table. table.members ≡ MOST_VERTICES) }
+    ensures functions { IfOk result (λ table. table.functions ≡ MOST_FACETS) }
+{
+    match FaceTable::open(alloc, MOST_VERTICES as u32, MOST_FACETS as u32) {
+        Ok(table) => Ok(table),
+        Err(_) => Err(NoMemory),
+    }
+}
+
+/// Gives all rows of a pool up. Memory is taken only where it was turned over as often as it may be.
+fn clear_pool(alloc: Global, pool: &mut RowPool) -> Result<(), NoMemory>
+    requires { HasRowRoom pool.old }
+    ensures room { HasRowRoom pool.new }
+    ensures empty { OnOk result (pool.new.young_generation.rows ≡ []) }
+{
+    if pool.turns() < MOST_TURNS {
+        pool.reset();
+        return Ok(());
+    }
+    *pool = open_pool(alloc)?;
+    Ok(())
+}
+
+/// The incidence of vertices and facets, whose rows are added to an empty pool.
+fn incidence_of(pool: &mut RowPool, facets: &[Functional], vertices: &[Point]) -> Incidence
+    requires room { HasRowRoom pool.old }
+    requires empty { pool.old.young_generation.rows ≡ [] }
+    requires faces { CanHaveFaces facets.now vertices.now }
+    ensures room { HasRowRoom pool.new }
+    ensures held { IsHeldOf pool.new result (valued vertices.now facets.now) }
+{
+    match Incidence::of(vertices, facets, pool) {
+        Ok(incidence) => incidence,
+        Err(_) => unreachable!(),
+    }
+}
+
+impl Faces {
+    /// Takes the room. `NoMemory` comes where there is no memory for it.
+    pub(crate) fn open(alloc: Global) -> Result<Faces, NoMemory> {
+        let pool = open_pool(alloc)?;
+        let table = open_table(alloc)?;
+        Ok(Faces { pool, table })
+    }
+
+    /// Finds the faces of the polytope with these facets and vertices, or refuses more than the limit.
+    fn find(
+        &mut self,
+        alloc: Global,
+        facets: &[Functional],
+        vertices: &[Point],
+    ) -> Result<(), Fault>
+        requires { CanHaveFaces facets.now vertices.now }
+        ensures { MatchResult result
+            (λ done. IsTableOf (valued vertices.now facets.now) self.new)
+            (Stops (IsFaceLimit (valued vertices.now facets.now))) }
+    {
+        clear_pool(alloc, &mut self.pool)?;
+        let incidence = incidence_of(&mut self.pool, facets, vertices);
+        match self.table.build(&incidence, &self.pool) {
+            Ok(()) => Ok(()),
+            Err(BuildFault::FaceLimit(told)) => {
+                let told = u128::from(told);
+                Err(Fault::Refused(Refusal::Limit(LimitName::Faces, told)))
+            }
+            Err(BuildFault::Stale(_)) => unreachable!(),
+        }
+    }
+
+    /// How many faces have the ranks 1 to 6.
+    fn counts(&self) -> [u32; MOST_COORDINATES]
+        ensures { (R : TightRelation) → IsTableOf R self.now → HaveFewFaces R 6 result }
+    {
+        let table = &self.table;
+        [
+            table.counts(1),
+            table.counts(2),
+            table.counts(3),
+            table.counts(4),
+            table.counts(5),
+            table.counts(6),
+        ]
+    }
+
+    /// How many faces of dimension 0 to 5 the polytope with these facets and vertices has, where they are `asked`; more faces than the limit are
+    /// refused then.
+    pub(crate) fn counts_of(
+        &mut self,
+        alloc: Global,
+        asked: bool,
+        facets: &[Functional],
+        vertices: &[Point],
+    ) -> Result<[u32; MOST_COORDINATES], Fault>
+        requires { CanHaveFaces facets.now vertices.now }
+        ensures counts { IfOk result (λ counts. IsTrue asked → HaveFewFaces (valued vertices.now facets.now) 6 counts) }
+        ensures long { IfOk result (λ counts. length counts ≡ 6) }
+        ensures refused { IfErr result (Stops (IsFaceStop asked (valued vertices.now facets.now))) }
+    {
+        if !asked {
+            return Ok([0; MOST_COORDINATES]);
+        }
+        self.find(alloc, facets, vertices)?;
+        Ok(self.counts())
+    }
+}
