@@ -4,15 +4,18 @@ use Rattle.std.proofs.lemmas.Bool.{cond-false}
 use Rattle.lattice_theory.proofs.Integers.{linear, zero-*ℤ, *ℤ-zero, one-*ℤ, minus_one-*ℤ}
 use Rattle.lattice_theory.specs.Vector.{int_eq}
 use Rattle.polynomial_theory.specs.Sums.{sign}
-use Rattle.polynomial_theory.specs.Series.{Series, LaurentSeries, HasDegreeAtMost, HasNoPowerAbove, times_at_ratio, times_at_product, power_of_minus_u}
+use Rattle.polynomial_theory.specs.Series.{Series, LaurentSeries, HasDegreeAtMost, HasNoPowerAbove, times_at_ratio, times_at_product, monomial, power_of_minus_u}
 use Rattle.polynomial_theory.proofs.LowPowers.{large_or_not}
 use Rattle.polynomial_theory.proofs.Places.{splits_none, int_differs}
 
 -- (-u)^r
+pub monomial_ends : (c : ℤ) (r : ℕ) → HasNoPowerAbove r 0 (monomial c r)
+monomial_ends c r p zero (inl h) = cond-false (int_eq p (pos r)) c (pos 0) (int_differs p r (λ e. absurd (omega (arith, linear))))
+monomial_ends c r p zero (inr h) = absurd (omega arith)
+monomial_ends c r p (suc q) h = refl
+
 pub power_ends : (r : ℕ) → HasNoPowerAbove r 0 (power_of_minus_u r)
-power_ends r p zero (inl h) = cond-false (int_eq p (pos r)) (sign r) (pos 0) (int_differs p r (λ e. absurd (omega (arith, linear))))
-power_ends r p zero (inr h) = absurd (omega arith)
-power_ends r p (suc q) h = refl
+power_ends r = monomial_ends (sign r) r
 
 -- one term of A(u^s v) f, where A's degree and f's ends leave nothing
 no_term : (A : Series) (f : LaurentSeries) (k m n : ℕ) (x : ℤ) (a b : ℕ) → HasDegreeAtMost k A → HasNoPowerAbove m n f → (a ≤ k

@@ -5,7 +5,7 @@ use Rattle.std.proofs.lemmas.Bool.{ne_eqb, cases_Bool, ltb-false, ltb-true, cond
 use Rattle.std.proofs.Math.Dec.{ltb}
 use Rattle.lattice_theory.specs.Vector.{int_eq}
 use Rattle.polynomial_theory.specs.Sums.{sum_of_splits, sign}
-use Rattle.polynomial_theory.specs.Series.{Series, LaurentSeries, HasDegreeAtMost, HasNoPowerBelow, times_at_ratio, times_at_product, power_of_minus_u}
+use Rattle.polynomial_theory.specs.Series.{Series, LaurentSeries, HasDegreeAtMost, HasNoPowerBelow, times_at_ratio, times_at_product, monomial, power_of_minus_u}
 
 -- terms that are 0
 pub splits_zero : (n : ℕ) (f : ℕ → ℕ → ℤ) → ((a b : ℕ) → f a b ≡ pos 0) → sum_of_splits n f ≡ pos 0
@@ -17,9 +17,12 @@ pub not_equal : (r : ℕ) (p : ℤ) → p <ℤ pos r → int_eq p (pos r) ≡ fa
 not_equal r (pos n) h = ne_eqb n r (λ (e : n ≡ r). absurd (omega (arith, linear)))
 not_equal r (negsuc n) h = refl
 
+pub monomial_starts : (c : ℤ) (r : ℕ) → HasNoPowerBelow (pos r) (monomial c r)
+monomial_starts c r p zero h = cond-false (int_eq p (pos r)) c (pos 0) (not_equal r p h)
+monomial_starts c r p (suc q) h = refl
+
 pub power_starts : (r : ℕ) → HasNoPowerBelow (pos r) (power_of_minus_u r)
-power_starts r p zero h = cond-false (int_eq p (pos r)) (sign r) (pos 0) (not_equal r p h)
-power_starts r p (suc q) h = refl
+power_starts r = monomial_starts (sign r) r
 
 -- A(uv) lowers no power of u
 pub product_starts : (m : ℤ) (A : Series) (f : LaurentSeries) → HasNoPowerBelow m f → HasNoPowerBelow m (times_at_product A f)

@@ -1,10 +1,12 @@
 -- One coefficient of a term is one product at most.
+use Rattle.std.proofs.Common.{◌-◌, ◌/◌, ◌%◌, ◌<◌, ◌≤◌, ◌⊎◌, inl, inr, nat_abs}
 use Rattle.std.proofs.Common.{◌≡◌, ◌≢◌, ℕ, zero, suc, ◌+◌, false, ◌==◌, ℤ, pos, negsuc, ◌+ℤ◌, ◌-ℤ◌, ◌*ℤ◌, refl, eq-eqb, sym, ap, ◌∙◌, arith}
 use Rattle.std.proofs.lemmas.Bool.{ne_eqb, cond-true, cond-false}
 use Rattle.lattice_theory.proofs.Integers.{linear, *ℤ-zero, minus_one-*ℤ, *ℤ_left_comm, *ℤ_comm, same_natural}
 use Rattle.lattice_theory.specs.Vector.{int_eq}
 use Rattle.polynomial_theory.specs.Sums.{sum_of_splits}
 use Rattle.polynomial_theory.specs.Series.{Series, times_at_ratio, times_at_product, monomial}
+use Rattle.polynomial_theory.proofs.LowPowers.{large_or_not}
 use Rattle.polynomial_theory.proofs.Times.{rest, times_zero, times_suc}
 
 -- all terms 0
@@ -80,3 +82,38 @@ pub place_none : (c : ℤ) (r p : ℕ) (A B : Series) (q : ℕ) → ((a b : ℕ)
     → times_at_ratio A (times_at_product B (monomial c r)) (pos p) q ≡ pos 0
 place_none c r p A B q h = splits_none q (λ m n. A m *ℤ times_at_product B (monomial c r) (pos p -ℤ negsuc 0 *ℤ pos m) n)
     (λ m n k. ap (λ (z : ℤ). A m *ℤ z) (low_none c r B (pos p -ℤ negsuc 0 *ℤ pos m) n (other_place r p m n (h m n k))) ∙ *ℤ-zero (A m))
+
+-- where the one product of a coefficient stands
+pub find_place : (r p q : ℕ) → ((a : ℕ) × (b : ℕ) × (a + b ≡ q) × (p + a ≡ r + b)) ⊎ ((a b : ℕ) → a + b ≡ q → p + a ≡ r + b → ⊥)
+find_place r p q = first (large_or_not (r + q) p)
+  where
+    third : p ≤ r + q → ((r + q - p) / 2 ≤ q) → (0 < (r + q - p) % 2) ⊎ ((r + q - p) % 2 ≤ 0)
+        → ((a : ℕ) × (b : ℕ) × (a + b ≡ q) × (p + a ≡ r + b)) ⊎ ((a b : ℕ) → a + b ≡ q → p + a ≡ r + b → ⊥)
+    third h k (inl l) = inr (λ a b e f. absurd (omega arith))
+    third h k (inr l) = inl ((r + q - p) / 2, q - (r + q - p) / 2, omega arith, omega arith)
+
+    second : p ≤ r + q → (q < (r + q - p) / 2) ⊎ ((r + q - p) / 2 ≤ q)
+        → ((a : ℕ) × (b : ℕ) × (a + b ≡ q) × (p + a ≡ r + b)) ⊎ ((a b : ℕ) → a + b ≡ q → p + a ≡ r + b → ⊥)
+    second h (inl k) = inr (λ a b e f. absurd (omega arith))
+    second h (inr k) = third h k (large_or_not 0 ((r + q - p) % 2))
+
+    first : (r + q < p) ⊎ (p ≤ r + q) → ((a : ℕ) × (b : ℕ) × (a + b ≡ q) × (p + a ≡ r + b)) ⊎ ((a b : ℕ) → a + b ≡ q → p + a ≡ r + b → ⊥)
+    first (inl h) = inr (λ a b e f. absurd (omega arith))
+    first (inr h) = second h (large_or_not q ((r + q - p) / 2))
+
+-- a coefficient is no larger than such a product
+pub coefficient_size : (c : ℤ) (r p q : ℕ) (A B : Series) (m : ℕ) → ((a b : ℕ) → nat_abs (c *ℤ (A a *ℤ B b)) ≤ m)
+    → nat_abs (times_at_ratio A (times_at_product B (monomial c r)) (pos p) q) ≤ m
+coefficient_size c r p q A B m h = by (find_place r p q)
+  where
+    same_size : (y z : ℤ) → y ≡ z → nat_abs z ≤ m → nat_abs y ≤ m
+    same_size y z e h = rw e h
+
+    at : (a b : ℕ) → a + b ≡ q → p + a ≡ r + b → nat_abs (times_at_ratio A (times_at_product B (monomial c r)) (pos p) q) ≤ m
+    at a b e f = same_size (times_at_ratio A (times_at_product B (monomial c r)) (pos p) q) (c *ℤ (A a *ℤ B b))
+        (ap (λ (n : ℕ). times_at_ratio A (times_at_product B (monomial c r)) (pos p) n) (sym e) ∙ place_found c r p A B a b f) (h a b)
+
+    by : ((a : ℕ) × (b : ℕ) × (a + b ≡ q) × (p + a ≡ r + b)) ⊎ ((a b : ℕ) → a + b ≡ q → p + a ≡ r + b → ⊥)
+        → nat_abs (times_at_ratio A (times_at_product B (monomial c r)) (pos p) q) ≤ m
+    by (inl w) = at w.0 w.1 w.2 w.3
+    by (inr n) = same_size (times_at_ratio A (times_at_product B (monomial c r)) (pos p) q) (pos 0) (place_none c r p A B q n) (omega arith)

@@ -4,4 +4,5 @@ pub mod OneProduct
 pub mod Laurent
 pub mod AddedTerms
 pub mod SmallSums
+pub mod FittingTerms
 mod Lines

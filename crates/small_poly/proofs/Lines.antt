@@ -1,11 +1,13 @@
 -- Polynomials of degree 1 with small coefficients, as the tests make them.
-use Rattle.std.proofs.Common.{◌≡◌, ℕ, ◌*◌, ◌^◌, ◌<◌, ◌≤◌, ◌==◌, Bool, true, false, cond, List, ℤ, pos, ◌+ℤ◌, ◌-ℤ◌, ◌*ℤ◌, nat_abs, ap, ◌∙◌, arith}
+use Rattle.std.proofs.Common.{◌≡◌, ℕ, ◌*◌, ◌^◌, ◌<◌, ◌≤◌, ◌==◌, Bool, true, false, cond, List, ℤ, pos, negsuc, ◌+ℤ◌, ◌-ℤ◌, ◌*ℤ◌, nat_abs, ap, ◌∙◌, arith}
 use Rattle.std.proofs.Math.Nat.{mul-le-mul}
 use Rattle.std.proofs.lemmas.Bool.{ne_eqb, cond-false}
 use Rattle.std.proofs.lemmas.Int.{ints, unsigned_abs-mul}
 use Rattle.lattice_theory.specs.Vector.{entry}
 use Rattle.polynomial_theory.specs.Series.{HasDegreeAtMost, product}
 use Rattle.polynomial_theory.proofs.ProductDegrees.{product_degree_lem}
+use Rattle.polynomial_theory.proofs.Places.{coefficient_size}
+use Rattle.small_poly.specs.Tables.{laurent_of, term}
 use Rattle.small_poly.specs.Sizes.{HasSmallSums}
 use Rattle.small_poly.proofs.SmallSums.{small_sums_lem}
 
@@ -52,3 +54,29 @@ lines_sums x y d h l = small_sums_lem (entry x) (entry y) (λ k m. d k (omega ar
   where
     by : (a b : ℤ) → nat_abs a ≤ 3 → nat_abs b ≤ 3 → nat_abs (a *ℤ b) ≤ 2 ^ 122
     by a b h k = let n : nat_abs (a *ℤ b) ≤ 3 * 3 = rw unsigned_abs-mul (mul-le-mul h k) in omega arith
+
+-- what a term of two of them asks
+lines_product : (x y : List ℤ) → ((k : ℕ) → nat_abs (entry x k) ≤ 3) → ((k : ℕ) → nat_abs (entry y k) ≤ 3) → (a b : ℕ) → nat_abs (entry x a *ℤ entry y b) ≤ 3 * 3
+lines_product x y h l a b = rw unsigned_abs-mul (mul-le-mul (h a) (l b))
+
+pub lines_products : (x y : List ℤ) → ((k : ℕ) → nat_abs (entry x k) ≤ 3) → ((k : ℕ) → nat_abs (entry y k) ≤ 3)
+    → (a b : ℕ) → nat_abs (entry x a *ℤ entry y b) ≤ 2 ^ 126
+lines_products x y h l a b = let m = lines_product x y h l a b in omega arith
+
+pub lines_term : (none x y : List ℤ) (r : ℕ) → ((p : ℤ) (q : ℕ) → laurent_of none p q ≡ pos 0) → ((k : ℕ) → nat_abs (entry x k) ≤ 3)
+    → ((k : ℕ) → nat_abs (entry y k) ≤ 3) → (i j : ℕ) → nat_abs (laurent_of none (pos i) j +ℤ term (negsuc 0) r (entry x) (entry y) (pos i) j) < 2 ^ 126
+lines_term none x y r z h l i j = by (laurent_of none (pos i) j) (term (negsuc 0) r (entry x) (entry y) (pos i) j) (z (pos i) j)
+    (coefficient_size (negsuc 0) r i j (entry x) (entry y) 9 (λ a b. turned (entry x a *ℤ entry y b) (lines_product x y h l a b)))
+  where
+    by : (a b : ℤ) → a ≡ pos 0 → nat_abs b ≤ 9 → nat_abs (a +ℤ b) < 2 ^ 126
+    by a b e h = omega (arith, ints)
+
+    turned : (z : ℤ) → nat_abs z ≤ 3 * 3 → nat_abs (negsuc 0 *ℤ z) ≤ 9
+    turned z h = omega (arith, ints)
+
+pub nothing_added : (x y : List ℤ) → ((p : ℤ) (q : ℕ) → laurent_of x p q ≡ pos 0) → ((p : ℤ) (q : ℕ) → laurent_of y p q ≡ pos 0)
+    → (i j : ℕ) → nat_abs (laurent_of x (pos i) j +ℤ laurent_of y (pos i) j) < 2 ^ 126
+nothing_added x y z w i j = by (laurent_of x (pos i) j) (laurent_of y (pos i) j) (z (pos i) j) (w (pos i) j)
+  where
+    by : (a b : ℤ) → a ≡ pos 0 → b ≡ pos 0 → nat_abs (a +ℤ b) < 2 ^ 126
+    by a b e f = omega (arith, ints)

@@ -1,7 +1,12 @@
-//! The law of small sums.
-ghost use Rattle.small_poly.specs.Laws.{SumsAreSmall};
+//! The laws of what products and terms ask.
+ghost use Rattle.small_poly.specs.Laws.{SumsAreSmall, TermsFit};
 
 /// What a product asks of sums holds where each product of two coefficients is at most 2^122 in size.
 pub fn sums_are_small()
     ensures { SumsAreSmall }
+{}
+
+/// What a term asks of powers holds where the degrees of both polynomials are small enough.
+pub fn terms_fit()
+    ensures { TermsFit }
 {}

@@ -15,6 +15,6 @@ mod terms;
 mod tests;
 mod two;
 
-pub use laws::sums_are_small;
+pub use laws::{sums_are_small, terms_fit};
 pub use one::Poly1;
 pub use two::Poly2;

@@ -64,7 +64,16 @@ fn a_product(rt: HostRuntime) {
 }
 
 #[test]
-fn no_powers(rt: HostRuntime) {
-    let p = Poly2::zero();
+fn nothing_is_added(rt: HostRuntime) {
+    let mut p = Poly2::zero();
+    p.add(&Poly2::zero());
     assert!(rt; p.coefficient(0, 0) == 0 && p.coefficient(17, 0) == 0);
+}
+
+#[test]
+fn a_term(rt: HostRuntime) {
+    let mut p = Poly2::zero();
+    p.add_term(true, 1, &first(), &second());
+    assert!(rt; p.coefficient(1, 0) == -3 && p.coefficient(0, 1) == -6);
+    assert!(rt; p.coefficient(2, 1) == 1 && p.coefficient(1, 2) == 2);
 }

@@ -1,5 +1,5 @@
 -- How large S~ and the numerator are.
-use Rattle.std.proofs.Common.{◌≡◌, ℕ, zero, suc, ◌+◌, ◌-◌, ◌*◌, ◌/◌, ◌%◌, ◌^◌, ◌<◌, ◌≤◌, ◌⊎◌, inl, inr, Bool, true, false, List, [], ◌∷◌, length, ℤ, pos}
+use Rattle.std.proofs.Common.{◌≡◌, ℕ, zero, suc, ◌+◌, ◌-◌, ◌*◌, ◌^◌, ◌≤◌, ◌⊎◌, Bool, true, false, List, [], ◌∷◌, length, ℤ, pos}
 use Rattle.std.proofs.Common.{◌+ℤ◌, ◌*ℤ◌, neg_ℤ, nat_abs, refl, sym, ap, ◌∙◌, arith}
 use Rattle.std.proofs.Math.Nat.{mul-suc, mul-le-mul}
 use Rattle.std.proofs.lemmas.Int.{ints, unsigned_abs-mul}
@@ -10,8 +10,8 @@ use Rattle.lattice_theory.proofs.Members.{In, here, there, contains_from_in}
 use Rattle.polynomial_theory.specs.Sums.{sum_over, sum_of_splits, sign}
 use Rattle.polynomial_theory.specs.Series.{Series, product, times_at_ratio, times_at_product, power_of_minus_u}
 use Rattle.polynomial_theory.proofs.Sums.{kept, sum_filter}
-use Rattle.polynomial_theory.proofs.LowPowers.{splits_zero, large_or_not}
-use Rattle.polynomial_theory.proofs.Places.{place_found, place_none}
+use Rattle.polynomial_theory.proofs.LowPowers.{splits_zero}
+use Rattle.polynomial_theory.proofs.Places.{coefficient_size}
 use Rattle.stringy_theory.specs.FaceSeries.{FaceSeries, IsRanked, HaveSmallCoefficients}
 use Rattle.stringy_theory.specs.Stringy.{numerator, s_tilde, s_tilde_dual}
 use Rattle.stringy_theory.proofs.Differences.{splits_last}
@@ -107,38 +107,11 @@ module _ {X : Type 0} (d : FaceSeries X) (small : HaveSmallCoefficients d) where
           let b = product_bound (d.h_dual y) (d.g_dual f y) (small.h_dual y i) (small.g_dual f y j i t) (small.g_dual_degree f y j i t) k in
           omega arith
 
--- where the one product of a coefficient stands
-find_place : (r p q : ℕ) → ((a : ℕ) × (b : ℕ) × (a + b ≡ q) × (p + a ≡ r + b)) ⊎ ((a b : ℕ) → a + b ≡ q → p + a ≡ r + b → ⊥)
-find_place r p q = first (large_or_not (r + q) p)
-  where
-    third : p ≤ r + q → ((r + q - p) / 2 ≤ q) → (0 < (r + q - p) % 2) ⊎ ((r + q - p) % 2 ≤ 0)
-        → ((a : ℕ) × (b : ℕ) × (a + b ≡ q) × (p + a ≡ r + b)) ⊎ ((a b : ℕ) → a + b ≡ q → p + a ≡ r + b → ⊥)
-    third h k (inl l) = inr (λ a b e f. absurd (omega arith))
-    third h k (inr l) = inl ((r + q - p) / 2, q - (r + q - p) / 2, omega arith, omega arith)
-
-    second : p ≤ r + q → (q < (r + q - p) / 2) ⊎ ((r + q - p) / 2 ≤ q)
-        → ((a : ℕ) × (b : ℕ) × (a + b ≡ q) × (p + a ≡ r + b)) ⊎ ((a b : ℕ) → a + b ≡ q → p + a ≡ r + b → ⊥)
-    second h (inl k) = inr (λ a b e f. absurd (omega arith))
-    second h (inr k) = third h k (large_or_not 0 ((r + q - p) % 2))
-
-    first : (r + q < p) ⊎ (p ≤ r + q) → ((a : ℕ) × (b : ℕ) × (a + b ≡ q) × (p + a ≡ r + b)) ⊎ ((a b : ℕ) → a + b ≡ q → p + a ≡ r + b → ⊥)
-    first (inl h) = inr (λ a b e f. absurd (omega arith))
-    first (inr h) = second h (large_or_not q ((r + q - p) / 2))
-
 -- one coefficient of one face
 pub coefficient_bound : (r p q : ℕ) (A B : Series) → ((k : ℕ) → nat_abs (A k) ≤ 2 ^ 54) → ((k : ℕ) → nat_abs (B k) ≤ 2 ^ 54)
     → nat_abs (times_at_ratio A (times_at_product B (power_of_minus_u r)) (pos p) q) ≤ 2 ^ 108
-coefficient_bound r p q A B h k = by (find_place r p q)
-  where
-    at : (a b : ℕ) → a + b ≡ q → p + a ≡ r + b → nat_abs (times_at_ratio A (times_at_product B (power_of_minus_u r)) (pos p) q) ≤ 2 ^ 108
-    at a b e f = same_size (times_at_ratio A (times_at_product B (power_of_minus_u r)) (pos p) q) (sign r *ℤ (A a *ℤ B b)) (2 ^ 108)
-        (ap (λ (n : ℕ). times_at_ratio A (times_at_product B (power_of_minus_u r)) (pos p) n) (sym e) ∙ place_found (sign r) r p A B a b f)
-        (let s = signed_size r (A a *ℤ B b) in let m = factors (A a) (B b) (2 ^ 54) (2 ^ 54) (h a) (k b) in omega arith)
-
-    by : ((a : ℕ) × (b : ℕ) × (a + b ≡ q) × (p + a ≡ r + b)) ⊎ ((a b : ℕ) → a + b ≡ q → p + a ≡ r + b → ⊥)
-        → nat_abs (times_at_ratio A (times_at_product B (power_of_minus_u r)) (pos p) q) ≤ 2 ^ 108
-    by (inl w) = at w.0 w.1 w.2 w.3
-    by (inr n) = same_size (times_at_ratio A (times_at_product B (power_of_minus_u r)) (pos p) q) (pos 0) (2 ^ 108) (place_none (sign r) r p A B q n) (omega arith)
+coefficient_bound r p q A B h k = coefficient_size (sign r) r p q A B (2 ^ 108)
+    (λ a b. let s = signed_size r (A a *ℤ B b) in let m = factors (A a) (B b) (2 ^ 54) (2 ^ 54) (h a) (k b) in omega arith)
 
 -- all of them
 pub numerator_bound : {X : Type 0} (d : FaceSeries X) → IsRanked d → HaveSmallCoefficients d → (p q : ℕ) → nat_abs (numerator d (pos p) q) ≤ 2 ^ 120
