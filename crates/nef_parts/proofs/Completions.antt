@@ -1,14 +1,13 @@
 -- The steps of a search for the first list in lexicographic order that completes a beginning, and from a list to the next one.
-use Rattle.std.specs.Prelude.{ℤ, pos, true, false}
-use Rattle.std.proofs.Common.{◌≡◌, ◌⊎◌, inl, inr, ℕ, ◌+◌, ◌<◌, ◌≤◌, List, length, map, refl, sym, ◌∙◌, subst, arith}
-use Rattle.std.proofs.Math.ListN.{set, length-set}
+use Rattle.std.specs.Prelude.{true}
+use Rattle.std.proofs.Common.{◌≡◌, ◌⊎◌, inl, inr, ℕ, ◌+◌, ◌<◌, ◌≤◌, List, length, sym, ◌∙◌, subst, arith}
+use Rattle.std.proofs.Math.ListN.{set}
 use Rattle.std.proofs.lemmas.Bool.{cases_lt}
 use Rattle.std.proofs.lemmas.List.{get_or-set_same, get_or-set_other, ext_get_or}
-use Rattle.lattice_theory.specs.Grid.{AgreesTo}
 use Rattle.walk_theory.specs.Walks.{NumbersLess}
 use Rattle.weight_points.proofs.Integral.{DiffersAt, differs, comes_before, same_exponent, agree_from}
 use Rattle.nef_theory.specs.Nef.{part_at}
-use Rattle.nef_parts.specs.steps.Completions.{AgreesOn, AtMost, IsCompletion, Completes, IsNextList, FollowsOn}
+use Rattle.nef_parts.specs.steps.Completions.{AgreesOn, AtMost, IsCompletion, Completes, IsNextList}
 
 -- lists that agree at all places are the same
 pub same_list : (x y : List ℕ) → length x ≡ length y → AgreesOn (length x) x y → x ≡ y

@@ -1,18 +1,17 @@
 -- A step from one nef partition to the next, as a step through the list of all.
 use Rattle.std.specs.Prelude.{ℤ, pos}
-use Rattle.std.proofs.Common.{◌≡◌, inl, inr, ℕ, ◌+◌, Bool, true, false, List, [], ◌∷◌, ◌++◌, length, map, refl, sym, ap, ◌∙◌, subst, length-append, append_assoc}
+use Rattle.std.proofs.Common.{◌≡◌, ℕ, ◌+◌, true, false, List, [], ◌∷◌, ◌++◌, length, map, refl, sym, ap, ◌∙◌, subst, length-append, append_assoc}
 use Rattle.std.proofs.lemmas.List.{length-map}
-use Rattle.lattice_theory.specs.Order.{Lists, LexLess}
+use Rattle.lattice_theory.specs.Order.{LexLess}
 use Rattle.lattice_theory.specs.Grid.{LexAtMost, IsNext, behind, up_to}
-use Rattle.lattice_theory.proofs.Orders.{lex_asymmetric}
-use Rattle.lattice_theory.proofs.Unique.{lists_unique, no_member}
+use Rattle.lattice_theory.proofs.Unique.{no_member}
 use Rattle.lattice_theory.proofs.LexPlaces.{not_at_most}
 use Rattle.lattice_theory.proofs.LexWalks.{AreUpTo, none_before, one_more, next_found, all_found, found_first, up_to_lists, up_to_unique}
 use Rattle.walk_theory.specs.Walks.{NumbersLess}
 use Rattle.nef_parts.specs.Lists.{PairLists}
 use Rattle.nef_parts.specs.Partitions.{IsNefOf, IsNefVector, AreNefPartitions, IsNefAt, HasNefPartitions}
 use Rattle.nef_parts.specs.Listing.{partitions, given_of}
-use Rattle.nef_parts.specs.steps.Completions.{AtMost, IsNextList, FollowsOn}
+use Rattle.nef_parts.specs.steps.Completions.{AtMost, IsNextList}
 
 module _ (l : PairLists) (r : ℕ) (all : AreNefPartitions l r (partitions l r)) where
   abbrev Nef : List ℤ → Type 0

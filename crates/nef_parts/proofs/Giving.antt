@@ -1,6 +1,6 @@
 -- What a call of a search gives.
 use Rattle.std.specs.Prelude.{ℤ, pos, negsuc, ◌≤ℤ◌, true, false, ◌/◌, ◌%◌, ◌*◌}
-use Rattle.std.specs.List.{All, AllZip, Contains}
+use Rattle.std.specs.List.{AllZip, Contains}
 use Rattle.std.proofs.Common.{◌≡◌, ◌≢◌, ◌⊎◌, inl, inr, ℕ, ◌+◌, ◌<◌, ◌≤◌, Bool, List, [], length, get_or, refl, sym, ap, ◌∙◌, subst, arith}
 use Rattle.std.proofs.Math.Nat.{mul-le-mul_left}
 use Rattle.std.proofs.lemmas.Nat.{div-mul-add, mod-mul-add}
@@ -10,18 +10,16 @@ use Rattle.std.proofs.lemmas.Slice.Zip.{AllZip-map}
 use Rattle.std.proofs.lemmas.List.{map-id, get_or_default, get_or-set_same, get_or-set_other}
 use Rattle.std.proofs.lemmas.List.Elements.{All-contains, Contains-get_or}
 use Rattle.lattice_theory.proofs.Integers.{linear}
-use Rattle.lattice_core.specs.Dimensions.{dimension_of}
-use Rattle.nef_theory.specs.Nef.{part_at, pairing_at, IsPartPoint}
+use Rattle.nef_theory.specs.Nef.{pairing_at, IsPartPoint}
 use Rattle.nef_theory.specs.Reflexive.{AreAtLeastMinusOne}
 use Rattle.nef_theory.specs.Agreement.{Agrees}
-use Rattle.nef_parts.specs.declared.masks.Candidate.{Candidate}
 use Rattle.nef_parts.specs.declared.masks.VertexMask.{VertexMask}
 use Rattle.nef_parts.specs.declared.masks.Table.{Table}
 use Rattle.nef_parts.specs.declared.beginnings.Beginning.{Beginning}
 use Rattle.nef_parts.specs.Partitions.{IsPointAt, ArePointsOf, AreNefPartitions, IsNefAt, HasNefPartitions}
 use Rattle.nef_parts.specs.Listing.{partitions, given_of}
 use Rattle.nef_parts.specs.steps.Rows.{vector_at}
-use Rattle.nef_parts.specs.steps.Tables.{IsCandidate, IsMask, IsTable}
+use Rattle.nef_parts.specs.steps.Tables.{IsCandidate, IsTable}
 use Rattle.nef_parts.specs.steps.Beginnings.{IsBeginning}
 use Rattle.nef_parts.specs.steps.Agreeing.{AllAgree, HasAgreeingPlace, AgreesIn}
 use Rattle.nef_parts.specs.steps.Completions.{Steps}

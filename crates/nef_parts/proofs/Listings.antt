@@ -2,23 +2,22 @@
 use Rattle.std.specs.Prelude.{ℤ, pos, negsuc, not, ◌||◌, ◌&&◌, ◌==◌}
 use Rattle.std.specs.Bool.{Decides}
 use Rattle.std.specs.Ordering.{int_eq}
-use Rattle.std.specs.List.{All, Contains, HoldsAt}
-use Rattle.std.proofs.Common.{◌≡◌, ◌≢◌, ◌↔◌, ℕ, zero, suc, ◌+◌, ◌<◌, ◌≤◌, max, Bool, true, false, List, [], ◌∷◌, length, map, get_or, refl, sym, ap, ◌∙◌, subst, arith}
-use Rattle.std.proofs.lemmas.Bool.{cases_lt}
+use Rattle.std.specs.List.{All, Contains}
+use Rattle.std.proofs.Common.{◌≡◌, ◌≢◌, ℕ, zero, suc, ◌<◌, ◌≤◌, Bool, true, false, List, [], ◌∷◌, length, map, get_or, refl, sym, ◌∙◌, subst, arith}
 use Rattle.std.proofs.lemmas.Bool.Decides.{Decides-eqb, Decides-int_eq, Decides-and, Decides-not, Decides-like, Decides-below_and, Decides-by_and, Decides-by_or}
 use Rattle.std.proofs.lemmas.List.Elements.{All-contains, Contains-get_or, at_from_Contains}
-use Rattle.lattice_theory.specs.Order.{Lists, LexLess}
+use Rattle.lattice_theory.specs.Order.{LexLess}
 use Rattle.lattice_theory.proofs.Members.{In, here, there, each_in, each_from_all, in_from_contains, contains_from_in}
 use Rattle.lattice_theory.proofs.Sublists.{in_map, from_map, ascends_map}
 use Rattle.lattice_core.specs.Dimensions.{dimension_of}
-use Rattle.walk_theory.specs.Walks.{NumbersLess, IsTried, walk}
-use Rattle.nef_theory.specs.Nef.{part_at, pairing_at, IsGrowthList, IsNefPartition}
+use Rattle.walk_theory.specs.Walks.{NumbersLess, walk}
+use Rattle.nef_theory.specs.Nef.{part_at, pairing_at, IsGrowthList}
 use Rattle.nef_theory.specs.Reflexive.{AreAtLeastMinusOne}
-use Rattle.nef_theory.specs.Agreement.{Agrees, HasAgreeing, HaveAgreeingPoints}
+use Rattle.nef_theory.specs.Agreement.{Agrees, HasAgreeing}
 use Rattle.nef_theory.specs.Walk.{IsNefGuide}
 use Rattle.nef_theory.proofs.NefWalks.{nef_walk_lem}
 use Rattle.nef_parts.specs.Lists.{PairLists}
-use Rattle.nef_parts.specs.Partitions.{IsNefOf, IsNefVector, AreNefPartitions}
+use Rattle.nef_parts.specs.Partitions.{AreNefPartitions}
 use Rattle.nef_parts.specs.Listing.{agrees_at, agrees_below, some_agrees, parts_agree, vertices_agree, number_used, growth_guide, partitions}
 
 decides_implies : (x y : Bool) (P Q : Type 0) → Decides x P → Decides y Q → Decides (not x || y) (P → Q)

@@ -1,22 +1,20 @@
 -- What the rows of candidates and beginnings say of agreement, and so of nef partitions.
-use Rattle.std.specs.Prelude.{ℤ, negsuc}
+use Rattle.std.specs.Prelude.{ℤ}
 use Rattle.std.specs.List.{All, Contains}
-use Rattle.std.proofs.Common.{◌≡◌, ◌⊎◌, inl, inr, ℕ, zero, suc, ◌+◌, ◌<◌, ◌≤◌, List, [], ◌∷◌, length, get_or, refl, sym, ◌∙◌, subst, arith}
+use Rattle.std.proofs.Common.{◌≡◌, ◌⊎◌, inl, inr, ℕ, suc, ◌+◌, ◌<◌, ◌≤◌, List, [], ◌∷◌, length, get_or, refl, sym, ◌∙◌, subst, arith}
 use Rattle.std.proofs.lemmas.Bool.{cases_lt}
 use Rattle.std.proofs.lemmas.List.{get_or_default}
 use Rattle.std.proofs.lemmas.List.Elements.{All-contains, Contains-get_or}
 use Rattle.lattice_theory.proofs.Members.{In, here, there, in_from_contains}
-use Rattle.lattice_core.specs.Dimensions.{dimension_of}
-use Rattle.bit_rows.specs.Rows.{HasIndex}
-use Rattle.nef_theory.specs.Nef.{part_at, pairing_at, IsGrowthList, IsNefPartition}
+use Rattle.nef_theory.specs.Nef.{IsGrowthList, IsNefPartition}
 use Rattle.nef_theory.specs.Reflexive.{AreAtLeastMinusOne}
-use Rattle.nef_theory.specs.Agreement.{StaysLow, Agrees, AgreesInside, HasAgreeing, HaveAgreeingPoints}
+use Rattle.nef_theory.specs.Agreement.{StaysLow, Agrees, AgreesInside, HasAgreeing}
 use Rattle.nef_theory.proofs.Agreements.{nef_by_agreement_lem, agreement_splits_lem}
 use Rattle.nef_parts.specs.declared.masks.Candidate.{Candidate}
 use Rattle.nef_parts.specs.declared.masks.VertexMask.{VertexMask}
 use Rattle.nef_parts.specs.declared.beginnings.Beginning.{Beginning}
 use Rattle.nef_parts.specs.steps.Rows.{IsTightRow, vector_at}
-use Rattle.nef_parts.specs.steps.Tables.{IsCandidate, HasPlace, IsMask, AreMasks}
+use Rattle.nef_parts.specs.steps.Tables.{IsCandidate, IsMask, AreMasks}
 use Rattle.nef_parts.specs.steps.Beginnings.{row_of, IsBeginning}
 use Rattle.nef_parts.specs.steps.Agreeing.{RowsAgree, SomeAgrees, AllAgree, AgreesAt}
 use Rattle.nef_parts.specs.steps.Completions.{AgreesOn}

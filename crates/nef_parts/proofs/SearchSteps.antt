@@ -1,11 +1,11 @@
 -- The steps of the search for the first nef partition that completes a beginning.
-use Rattle.std.specs.Prelude.{ℤ, pos, true, false, ◌==◌}
+use Rattle.std.specs.Prelude.{pos, true, false}
 use Rattle.std.specs.Bool.{Decides}
 use Rattle.std.proofs.Common.{Bool, ◌≡◌, ◌≢◌, ◌⊎◌, inl, inr, ℕ, zero, suc, ◌+◌, ◌<◌, ◌≤◌, max, min}
-use Rattle.std.proofs.Common.{List, [], ◌∷◌, ◌++◌, length, map, get_or, take, drop, refl, sym, ap, ◌∙◌, subst, arith}
-use Rattle.std.proofs.Math.ListN.{set, length-set}
+use Rattle.std.proofs.Common.{List, [], ◌∷◌, ◌++◌, length, map, take, drop, refl, sym, ap, ◌∙◌, subst, arith}
+use Rattle.std.proofs.Math.ListN.{set}
 use Rattle.std.proofs.lemmas.Bool.{cases_lt}
-use Rattle.std.proofs.lemmas.List.{get_or-take, take_all, take_more, take_more_set, take-append-drop, length-take-le, drop_more}
+use Rattle.std.proofs.lemmas.List.{get_or-take, take_all, take_more, take_more_set, length-take-le}
 use Rattle.nef_theory.specs.Nef.{part_at, IsGrowthList}
 use Rattle.nef_theory.proofs.GrowthLists.{growth_none, growth_push, growth_next}
 use Rattle.nef_parts.specs.declared.masks.Table.{Table}
@@ -14,7 +14,7 @@ use Rattle.nef_parts.specs.steps.Tables.{IsTable}
 use Rattle.nef_parts.specs.steps.Nef.{IsNefIn}
 use Rattle.nef_parts.specs.steps.Beginnings.{IsGrowth, IsBeginning}
 use Rattle.nef_parts.specs.steps.Agreeing.{AllAgree}
-use Rattle.nef_parts.specs.steps.Completions.{AgreesOn, AtMost, IsCompletion, Completes, IsNextList, FollowsOn, Begins}
+use Rattle.nef_parts.specs.steps.Completions.{AgreesOn, IsCompletion, Completes}
 use Rattle.nef_parts.proofs.BeginningSteps.{split_at}
 use Rattle.nef_parts.proofs.RowAgreements.{agreeing_is_nef, nef_agrees}
 use Rattle.nef_parts.proofs.Listings.{used_is}

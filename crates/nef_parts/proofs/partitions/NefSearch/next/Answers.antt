@@ -1,4 +1,4 @@
-use Rattle.std.proofs.Common.{◌≡◌, ◌∙◌, ℕ, true, false, List, length, refl, sym, ap, subst}
+use Rattle.std.proofs.Common.{◌∙◌, ℕ, true, false, List, length, refl, sym, ap, subst}
 use Rattle.nef_parts.specs.Partitions.{ArePointsOf}
 use Rattle.nef_parts.specs.Listing.{given_of}
 use Rattle.nef_parts.specs.steps.Nef.{IsNefIn, lists_in}
