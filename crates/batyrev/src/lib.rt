@@ -9,3 +9,6 @@ mod line;
 mod sums;
 
 pub use line::{HodgeLine, hodge};
+
+#[cfg(test)]
+mod tests;
