@@ -88,6 +88,27 @@ fn ranks_the_faces_of_the_triangle(rt: HostRuntime) -> Result<(), Fail> {
 }
 
 #[test]
+fn lists_the_faces_of_the_octahedron(rt: HostRuntime) -> Result<(), Fail> {
+    // The corners -x, -y, -z, x, y and z, and the octants by the signs of x, y and z.
+    let (yes, no) = (true, false);
+    let octants = [
+        no, no, no, no, yes, yes, yes, yes, no, no, yes, yes, no, no, yes, yes, no, yes, no, yes,
+        no, yes, no, yes, yes, yes, yes, yes, no, no, no, no, yes, yes, no, no, yes, yes, no, no,
+        yes, no, yes, no, yes, no, yes, no,
+    ];
+    let (table, outcome) = built(rt.alloc(), 6, 8, &octants)?;
+    assert_eq!(rt; outcome, Ok(()));
+    assert_eq!(rt; table.len(), 28);
+    assert_eq!(rt; table.counts(1), 6);
+    assert_eq!(rt; table.counts(2), 12);
+    assert_eq!(rt; table.counts(3), 8);
+    assert_eq!(rt; table.find(&[0b00_0111]), Some(19));
+    assert_eq!(rt; table.find_functions(&[0b1000_0000]), Some(19));
+    assert_eq!(rt; table.find(&[0b00_1001]), None);
+    Ok(())
+}
+
+#[test]
 fn meets_the_limit(rt: HostRuntime) -> Result<(), Fail> {
     assert_eq!(rt; counted(rt.alloc(), 11)?, Ok(2_048));
     assert_eq!(rt; counted(rt.alloc(), 12)?, Ok(4_096));
