@@ -62,10 +62,16 @@ pub enum LimitName {
     ScanM,
     /// The number of lattice points of a large dilate of the dual.
     ScanN,
+    /// The number of a nef partition in its item.
+    Partitions,
+    /// The number of faces of a Cayley cone.
+    ConeFaces,
     /// The number of pairs of one degree in a Cayley cone.
     ConeM,
     /// The number of pairs of one degree in the dual of a Cayley cone.
     ConeN,
+    /// The absolute value of a coefficient of the polynomial of an interval of faces.
+    Coef,
 }
 
 /// Why an item is refused.

@@ -34,8 +34,11 @@ limit_name limits.Codim = codes "Codim"
 limit_name limits.Rank = codes "Rank"
 limit_name limits.ScanM = codes "ScanM"
 limit_name limits.ScanN = codes "ScanN"
+limit_name limits.Partitions = codes "Partitions"
+limit_name limits.ConeFaces = codes "ConeFaces"
 limit_name limits.ConeM = codes "ConeM"
 limit_name limits.ConeN = codes "ConeN"
+limit_name limits.Coef = codes "Coef"
 
 -- what the note says of a refusal
 abbrev pub refusal_text : Refusal → List ℕ

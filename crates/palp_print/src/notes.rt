@@ -57,8 +57,11 @@ fn name_of(limit: LimitName) -> &'static [u8]
         LimitName::Rank => b"Rank",
         LimitName::ScanM => b"ScanM",
         LimitName::ScanN => b"ScanN",
+        LimitName::Partitions => b"Partitions",
+        LimitName::ConeFaces => b"ConeFaces",
         LimitName::ConeM => b"ConeM",
         LimitName::ConeN => b"ConeN",
+        LimitName::Coef => b"Coef",
     }
 }
 
