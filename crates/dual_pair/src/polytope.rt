@@ -106,6 +106,20 @@ impl Polytope {
         })
     }
 
+    /// The polytope with these vertices, facets and lattice points, which are those of its vertices, in order. Nothing is sought.
+    pub fn of_lists(vertices: Vec<Point>, facets: Vec<Functional>, points: Vec<Point>) -> Polytope
+        requires { IsPolytope (record { vertices = vertices.items; facets = facets.items; points = points.items }) }
+        ensures { result ≡ record { vertices = vertices.items; facets = facets.items; points = points.items } }
+    {
+        let dim = dimension(&vertices);
+        Polytope {
+            dim,
+            vertices,
+            facets,
+            points,
+        }
+    }
+
     /// The number of coordinates, 1 to 6.
     pub fn dim(&self) -> usize
         ensures value { result ≡ dimension_of self.now.vertices }
