@@ -2,7 +2,7 @@ use Rattle.std.proofs.Common.{List, ℤ, sym, subst}
 use Rattle.std.proofs.lemmas.List.Sorted.{Contains-permutation, IsPermutation-sym}
 use Rattle.lattice_theory.specs.Facet.{AreFacetsInAnyOrder}
 use Rattle.lattice_core.specs.Dimensions.{dimension_of}
-use Rattle.palp_vectors.proofs.hulls.lead_in_any_order.Goals as goal
+use Rattle.polytope_vectors.proofs.hulls.lead_in_any_order.Goals as goal
 
 pub lead_to-requires-clause-facets : goal.lead_to-requires-clause-facets
 lead_to-requires-clause-facets c = subst (λ (ps : List (List ℤ)). AreFacetsInAnyOrder (dimension_of ps) ps c.facets-2.result.now)

@@ -1,5 +1,5 @@
-use Rattle.palp_vectors.proofs.FrontPoints.{next_dimension}
-use Rattle.palp_vectors.proofs.hulls.built.Goals as goal
+use Rattle.polytope_vectors.proofs.FrontPoints.{next_dimension}
+use Rattle.polytope_vectors.proofs.hulls.built.Goals as goal
 
 pub insert-requires : goal.insert-requires
 insert-requires c = next_dimension c.args.points.now c.loop-i.builder.points c.loop-i.i c.index-points-i.result c.requires.points.one_dimension

@@ -2,7 +2,7 @@ use Rattle.std.proofs.Common.{◌≡◌, length, List, sym, subst, All, Contains
 use Rattle.std.proofs.lemmas.List.Elements.{All-weaker, All-contains_itself}
 use Rattle.lattice_theory.specs.Affine.{Affine}
 use Rattle.lattice_core.specs.Dimensions.{dimension_of}
-use Rattle.palp_vectors.proofs.hulls.has_facets.Goals as goal
+use Rattle.polytope_vectors.proofs.hulls.has_facets.Goals as goal
 
 pub ascending_functions-requires : goal.ascending_functions-requires
 ascending_functions-requires c =

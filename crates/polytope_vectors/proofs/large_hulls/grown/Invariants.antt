@@ -1,5 +1,5 @@
 use Rattle.std.proofs.Common.{◌≡◌, ◌≤◌, take}
-use Rattle.palp_vectors.proofs.large_hulls.grown.Given as goal
+use Rattle.polytope_vectors.proofs.large_hulls.grown.Given as goal
 
 abbrev pub invariant-loop-i : goal.invariant-loop-i
 invariant-loop-i l = record {

@@ -2,8 +2,8 @@ use Rattle.std.proofs.Common.{◌≡◌, List, ℤ, ◌∙◌, subst, arith}
 use Rattle.std.proofs.lemmas.List.{take_all}
 use Rattle.lattice_theory.specs.Facet.{AreFacetsInAnyOrder}
 use Rattle.lattice_core.specs.Dimensions.{dimension_of}
-use Rattle.palp_vectors.proofs.FrontPoints.{next_dimension}
-use Rattle.palp_vectors.proofs.large_hulls.grown.Goals as goal
+use Rattle.polytope_vectors.proofs.FrontPoints.{next_dimension}
+use Rattle.polytope_vectors.proofs.large_hulls.grown.Goals as goal
 
 pub insert-requires : goal.insert-requires
 insert-requires c = next_dimension c.args.points.now c.loop-i.builder.points c.loop-i.i c.index-points-i.result c.requires.points.one_dimension
