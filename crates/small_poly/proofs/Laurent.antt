@@ -1,13 +1,14 @@
 -- Sums of powers by their lists of coefficients.
 use Rattle.std.proofs.Common.{◌≡◌, ℕ, zero, suc, ◌+◌, ◌*◌, ◌/◌, ◌%◌, ◌^◌, ◌<◌, ◌≤◌, nat_lt, cond, Bool, true, false, ◌⊎◌, inl, inr, List, ℤ, pos}
-use Rattle.std.proofs.Common.{negsuc, ◌+ℤ◌, ◌<ℤ◌, nat_abs, length, replicate, refl, sym, ap, ◌∙◌, arith}
+use Rattle.std.proofs.Common.{negsuc, ◌+ℤ◌, ◌*ℤ◌, ◌<ℤ◌, nat_abs, length, replicate, refl, sym, ap, ◌∙◌, arith}
 use Rattle.std.proofs.lemmas.Bool.{cond-true, cond-false, lt-ltb, le-ltb}
 use Rattle.lattice_theory.specs.Vector.{entry}
-use Rattle.lattice_theory.proofs.Integers.{linear}
+use Rattle.lattice_theory.proofs.Integers.{linear, *ℤ-zero}
 use Rattle.lattice_theory.proofs.Vectors.{entry_past}
-use Rattle.polynomial_theory.specs.Series.{LaurentSeries, HasNoPowerBelow, HasNoPowerAbove}
+use Rattle.polynomial_theory.specs.Series.{LaurentSeries, HasNoPowerBelow, HasNoPowerAbove, times_at_product}
+use Rattle.small_poly.specs.Sizes.{HasSmallTerms}
 use Rattle.polynomial_theory.proofs.LowPowers.{large_or_not}
-use Rattle.small_poly.specs.Tables.{laurent_of, term}
+use Rattle.small_poly.specs.Tables.{laurent_of, term, times_both}
 
 -- the coefficient at a place
 pub laurent_at : (xs : List ℤ) (k : ℕ) → laurent_of xs (pos (k / 17)) (k % 17) ≡ entry xs k
@@ -110,3 +111,29 @@ pub zero_entries : (n k : ℕ) → entry (replicate n (pos 0)) k ≡ pos 0
 zero_entries zero k = refl
 zero_entries (suc n) zero = refl
 zero_entries (suc n) (suc k) = zero_entries n k
+
+-- products that are added
+pub told_products : (c : ℤ) (xs ls rs ys x l r y : List ℤ) → xs ≡ x → ls ≡ l → rs ≡ r → ys ≡ y
+    → ((i j : ℕ) → nat_abs (laurent_of x (pos i) j +ℤ c *ℤ times_both (entry l) (entry r) (laurent_of y) (pos i) j) < 2 ^ 126)
+    → (k : ℕ) → nat_abs (entry xs k +ℤ c *ℤ times_both (entry ls) (entry rs) (laurent_of ys) (pos (k / 17)) (k % 17)) < 2 ^ 126
+told_products c xs ls rs ys x l r y e f g i h k = rw (e, f, g, i) (small_terms x (λ p q. c *ℤ times_both (entry l) (entry r) (laurent_of y) p q) h k)
+
+pub product_added : (c : ℤ) (old new ls rs ys x l r y : List ℤ) → old ≡ x → ls ≡ l → rs ≡ r → ys ≡ y → length old ≡ 289 → length new ≡ 289
+    → ((k : ℕ) → k < 289 → entry new k ≡ entry old k +ℤ c *ℤ times_both (entry ls) (entry rs) (laurent_of ys) (pos (k / 17)) (k % 17))
+    → HasNoPowerBelow (pos 0) (times_both (entry l) (entry r) (laurent_of y)) → HasNoPowerAbove 16 16 (times_both (entry l) (entry r) (laurent_of y))
+    → (p : ℤ) (q : ℕ) → laurent_of new p q ≡ laurent_of x p q +ℤ c *ℤ times_both (entry l) (entry r) (laurent_of y) p q
+product_added c old new ls rs ys x l r y e f g i a b h low high = added x new (λ p q. c *ℤ times_both (entry l) (entry r) (laurent_of y) p q)
+    (ap length (sym e) ∙ a) b
+    (λ k m. h k m ∙ ap (λ z. entry z k +ℤ c *ℤ times_both (entry ls) (entry rs) (laurent_of ys) (pos (k / 17)) (k % 17)) e
+    ∙ ap (λ z. entry x k +ℤ c *ℤ times_both (entry z) (entry rs) (laurent_of ys) (pos (k / 17)) (k % 17)) f
+    ∙ ap (λ z. entry x k +ℤ c *ℤ times_both (entry l) (entry z) (laurent_of ys) (pos (k / 17)) (k % 17)) g
+    ∙ ap (λ z. entry x k +ℤ c *ℤ times_both (entry l) (entry r) (laurent_of z) (pos (k / 17)) (k % 17)) i)
+    (λ p q m. ap (λ (z : ℤ). c *ℤ z) (low p q m) ∙ *ℤ-zero c) (λ p q m. ap (λ (z : ℤ). c *ℤ z) (high p q m) ∙ *ℤ-zero c)
+
+pub told_first : (rs ys r y : List ℤ) → rs ≡ r → ys ≡ y → HasSmallTerms (pos 1) (entry r) (laurent_of y) → HasSmallTerms (pos 1) (entry rs) (laurent_of ys)
+told_first rs ys r y e f h = rw (e, f) h
+
+pub told_second : (ls rs ys l r y : List ℤ) → ls ≡ l → rs ≡ r → ys ≡ y
+    → HasSmallTerms (negsuc 0) (entry l) (times_at_product (entry r) (laurent_of y))
+    → HasSmallTerms (negsuc 0) (entry ls) (times_at_product (entry rs) (laurent_of ys))
+told_second ls rs ys l r y e f g h = rw (e, f, g) h

@@ -4,12 +4,14 @@ use Rattle.std.proofs.Math.Nat.{mul-le-mul}
 use Rattle.std.proofs.lemmas.Bool.{ne_eqb, cond-false}
 use Rattle.std.proofs.lemmas.Int.{ints, unsigned_abs-mul}
 use Rattle.lattice_theory.specs.Vector.{entry}
-use Rattle.polynomial_theory.specs.Series.{HasDegreeAtMost, product}
+use Rattle.polynomial_theory.specs.Series.{LaurentSeries, HasDegreeAtMost, HasNoPowerBelow, HasNoPowerAbove, product, times, times_at_product}
+use Rattle.polynomial_theory.proofs.Times.{times_same, times_none}
+use Rattle.lattice_theory.proofs.Integers.{*ℤ-zero}
 use Rattle.polynomial_theory.proofs.ProductDegrees.{product_degree_lem}
 use Rattle.polynomial_theory.proofs.Places.{coefficient_size}
-use Rattle.small_poly.specs.Tables.{laurent_of, term}
-use Rattle.small_poly.specs.Sizes.{HasSmallSums}
-use Rattle.small_poly.proofs.SmallSums.{small_sums_lem}
+use Rattle.small_poly.specs.Tables.{laurent_of, term, times_both}
+use Rattle.small_poly.specs.Sizes.{HasSmallSums, HasSmallTerms}
+use Rattle.small_poly.proofs.SmallSums.{small_sums_lem, small_terms_lem}
 
 -- one of two small numbers
 chosen : (b : Bool) (x y : ℤ) → nat_abs x ≤ 3 → nat_abs y ≤ 3 → nat_abs (cond b x y) ≤ 3
@@ -79,4 +81,38 @@ pub nothing_added : (x y : List ℤ) → ((p : ℤ) (q : ℕ) → laurent_of x p
 nothing_added x y z w i j = by (laurent_of x (pos i) j) (laurent_of y (pos i) j) (z (pos i) j) (w (pos i) j)
   where
     by : (a b : ℤ) → a ≡ pos 0 → b ≡ pos 0 → nat_abs (a +ℤ b) < 2 ^ 126
+    by a b e f = omega (arith, ints)
+
+-- what a product of two of them and nothing asks
+zero_times : (s : ℤ) (x : List ℤ) (f : LaurentSeries) → ((p : ℤ) (q : ℕ) → f p q ≡ pos 0) → (p : ℤ) (q : ℕ) → times s (entry x) f p q ≡ pos 0
+zero_times s x f z p q = times_same s (entry x) f (λ p q. pos 0) z p q ∙ times_none s (entry x) p q
+
+none_both : (x y none : List ℤ) → ((p : ℤ) (q : ℕ) → laurent_of none p q ≡ pos 0) → (p : ℤ) (q : ℕ) → times_both (entry x) (entry y) (laurent_of none) p q ≡ pos 0
+none_both x y none z = zero_times (negsuc 0) x (times_at_product (entry y) (laurent_of none)) (zero_times (pos 1) y (laurent_of none) z)
+
+pub none_below : (x y none : List ℤ) → ((p : ℤ) (q : ℕ) → laurent_of none p q ≡ pos 0)
+    → HasNoPowerBelow (pos 0) (times_both (entry x) (entry y) (laurent_of none))
+none_below x y none z p q h = none_both x y none z p q
+
+pub none_above : (x y none : List ℤ) → ((p : ℤ) (q : ℕ) → laurent_of none p q ≡ pos 0)
+    → HasNoPowerAbove 16 16 (times_both (entry x) (entry y) (laurent_of none))
+none_above x y none z p q h = none_both x y none z p q
+
+no_product : (x : List ℤ) (f : LaurentSeries) → ((p : ℤ) (q : ℕ) → f p q ≡ pos 0) → (a : ℕ) (p : ℤ) (q : ℕ) → nat_abs (entry x a *ℤ f p q) ≤ 2 ^ 122
+no_product x f z a p q = let e = ap (λ (t : ℤ). nat_abs (entry x a *ℤ t)) (z p q) ∙ ap nat_abs (*ℤ-zero (entry x a)) in omega arith
+
+pub none_first : (y none : List ℤ) → ((p : ℤ) (q : ℕ) → laurent_of none p q ≡ pos 0) → HasDegreeAtMost 1 (entry y)
+    → HasSmallTerms (pos 1) (entry y) (laurent_of none)
+none_first y none z d = small_terms_lem (pos 1) (entry y) (laurent_of none) (λ k m. d k (omega arith)) (no_product y (laurent_of none) z)
+
+pub none_second : (x y none : List ℤ) → ((p : ℤ) (q : ℕ) → laurent_of none p q ≡ pos 0) → HasDegreeAtMost 1 (entry x)
+    → HasSmallTerms (negsuc 0) (entry x) (times_at_product (entry y) (laurent_of none))
+none_second x y none z d = small_terms_lem (negsuc 0) (entry x) (times_at_product (entry y) (laurent_of none)) (λ k m. d k (omega arith))
+    (no_product x (times_at_product (entry y) (laurent_of none)) (zero_times (pos 1) y (laurent_of none) z))
+
+pub none_added : (old x y none : List ℤ) → ((p : ℤ) (q : ℕ) → laurent_of old p q ≡ pos 0) → ((p : ℤ) (q : ℕ) → laurent_of none p q ≡ pos 0)
+    → (i j : ℕ) → nat_abs (laurent_of old (pos i) j +ℤ negsuc 0 *ℤ times_both (entry x) (entry y) (laurent_of none) (pos i) j) < 2 ^ 126
+none_added old x y none w z i j = by (laurent_of old (pos i) j) (times_both (entry x) (entry y) (laurent_of none) (pos i) j) (w (pos i) j) (none_both x y none z (pos i) j)
+  where
+    by : (a b : ℤ) → a ≡ pos 0 → b ≡ pos 0 → nat_abs (a +ℤ negsuc 0 *ℤ b) < 2 ^ 126
     by a b e f = omega (arith, ints)

@@ -15,3 +15,7 @@ unit_of negative = cond negative (negsuc 0) (pos 1)
 -- c u^r A(v/u) B(uv)
 abbrev pub term : ℤ → ℕ → Series → Series → LaurentSeries
 term c r A B = times_at_ratio A (times_at_product B (monomial c r))
+
+-- A(v/u) B(uv) f
+abbrev pub times_both : Series → Series → LaurentSeries → LaurentSeries
+times_both A B f = times_at_ratio A (times_at_product B f)

@@ -7,6 +7,7 @@
 //! polynomials that are put in at v/u and uv.
 #![tactic(auto)]
 
+mod factors;
 mod laws;
 mod lists;
 mod one;

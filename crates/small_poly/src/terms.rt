@@ -64,7 +64,7 @@ fn place_of(r: usize, p: usize, q: usize) -> Option<usize>
 }
 
 /// The number, or its negative.
-fn signed(negative: bool, number: i128) -> i128
+pub(crate) fn signed(negative: bool, number: i128) -> i128
     requires { nat_abs number ≤ 2 ^ 126 }
     ensures { result ≡ unit_of negative *ℤ number }
 {
@@ -72,7 +72,7 @@ fn signed(negative: bool, number: i128) -> i128
 }
 
 /// The coefficient at a place; one that is missing is 0.
-fn read(coefficients: &[i128], place: usize) -> i128
+pub(crate) fn read(coefficients: &[i128], place: usize) -> i128
     ensures { result ≡ entry coefficients.now place }
 {
     if place < coefficients.len() {

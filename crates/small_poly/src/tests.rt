@@ -77,3 +77,10 @@ fn a_term(rt: HostRuntime) {
     assert!(rt; p.coefficient(1, 0) == -3 && p.coefficient(0, 1) == -6);
     assert!(rt; p.coefficient(2, 1) == 1 && p.coefficient(1, 2) == 2);
 }
+
+#[test]
+fn a_product_with_nothing(rt: HostRuntime) {
+    let mut p = Poly2::zero();
+    p.add_product(true, &first(), &second(), &Poly2::zero());
+    assert!(rt; p.coefficient(0, 0) == 0 && p.coefficient(1, 1) == 0);
+}

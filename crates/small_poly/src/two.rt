@@ -1,9 +1,11 @@
 //! Sums of powers of two variables.
-ghost use Rattle.std.specs.Prelude.{◌≡◌, ℕ, ◌^◌, ◌<◌, ◌≤◌, ℤ, pos, ◌+ℤ◌, ◌*ℤ◌, nat_abs};
+ghost use Rattle.std.specs.Prelude.{◌≡◌, ℕ, ◌^◌, ◌<◌, ◌≤◌, ℤ, pos, negsuc, ◌+ℤ◌, ◌*ℤ◌, nat_abs};
 ghost use Rattle.lattice_theory.specs.Vector.{entry};
-ghost use Rattle.polynomial_theory.specs.Series.{HasNoPowerBelow, HasNoPowerAbove};
-ghost use Rattle.small_poly.specs.Tables.{laurent_of, unit_of, term};
+ghost use Rattle.polynomial_theory.specs.Series.{HasNoPowerBelow, HasNoPowerAbove, times_at_product};
+ghost use Rattle.small_poly.specs.Sizes.{HasSmallTerms};
+ghost use Rattle.small_poly.specs.Tables.{laurent_of, unit_of, term, times_both};
 
+use crate::factors::add_products;
 use crate::lists::add_each;
 use crate::one::Poly1;
 use crate::terms::add_terms;
@@ -78,6 +80,25 @@ impl Poly2 {
             power,
             left.coefficients(),
             right.coefficients(),
+        );
+    }
+
+    /// Adds left(v/u) right(uv) inner, or subtracts it. It has no negative powers and none above 16; the sizes of the products that make one
+    /// coefficient of right(uv) inner, or of the whole, sum to at most 2^126, and the coefficients are below it.
+    pub fn add_product(&mut self, negative: bool, left: &Poly1, right: &Poly1, inner: &Poly2)
+        requires low { HasNoPowerBelow (pos 0) (times_both (entry left.now) (entry right.now) (laurent_of inner.now)) }
+        requires high { HasNoPowerAbove 16 16 (times_both (entry left.now) (entry right.now) (laurent_of inner.now)) }
+        requires first { HasSmallTerms (pos 1) (entry right.now) (laurent_of inner.now) }
+        requires second { HasSmallTerms (negsuc 0) (entry left.now) (times_at_product (entry right.now) (laurent_of inner.now)) }
+        requires small { (i j : ℕ) → nat_abs (laurent_of self.old (pos i) j +ℤ unit_of negative *ℤ times_both (entry left.now) (entry right.now) (laurent_of inner.now) (pos i) j) < 2 ^ 126 }
+        ensures { (p : ℤ) (q : ℕ) → laurent_of self.new p q ≡ laurent_of self.old p q +ℤ unit_of negative *ℤ times_both (entry left.now) (entry right.now) (laurent_of inner.now) p q }
+    {
+        add_products(
+            &mut self.coefficients,
+            negative,
+            left.coefficients(),
+            right.coefficients(),
+            &inner.coefficients,
         );
     }
 }
