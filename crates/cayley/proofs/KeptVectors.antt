@@ -18,6 +18,7 @@ use Rattle.duality_theory.specs.Reflexive.{with_one}
 use Rattle.nef_theory.specs.Nef.{part_at, IsPartPoint}
 use Rattle.nef_theory.specs.Places.{ArePartPlaces}
 use Rattle.cayley_theory.specs.Cones.{zero_vector, unit_vector, lifted, IsConeMember, IsConeFunction, AreConeMembers, AreConeFunctions}
+use Rattle.cayley_theory.proofs.ConeVectors.{lex_append, lex_behind}
 use Rattle.cayley_theory.proofs.PartPoints.{part_points_are_single_lem}
 use Rattle.cayley.specs.ConeSteps.{with_part, lifted_one, lifted_all, kept_point, kept_normal, kept_unit, IsAmong, AddsFirst, HoldFunctions}
 
@@ -34,16 +35,6 @@ pub record KeepsPart (r : ℕ) (f : Affine) : Type 0 where
   pub part : ℕ
   pub within : part < r
   pub constant_is : f.constant ≡ neg_ℤ (pos part)
-
-lex_append : (x y u v : List ℤ) → LexLess x y → LexLess (x ++ u) (y ++ v)
-lex_append [] y u v h = absurd h
-lex_append (a ∷ x) [] u v h = absurd h
-lex_append (a ∷ x) (b ∷ y) u v (inl l) = inl l
-lex_append (a ∷ x) (b ∷ y) u v (inr h) = inr (h.0, lex_append x y u v h.1)
-
-lex_behind : (x u v : List ℤ) → LexLess u v → LexLess (x ++ u) (x ++ v)
-lex_behind [] u v h = h
-lex_behind (a ∷ x) u v h = inr (refl, lex_behind x u v h)
 
 -- unit vectors descend
 later_unit : (r i j : ℕ) → j < i → j < r → LexLess (unit_vector r i) (unit_vector r j)

@@ -1,22 +1,17 @@
 -- The steps on the way to a cone. This project's own.
-use Rattle.std.specs.Prelude.{◌≡◌, ◌⊎◌, ◌↔◌, ℕ, ◌+◌, ◌*◌, ◌^◌, ◌%◌, ◌<◌, ◌≤◌, Bool, false, cond, List, [], ◌∷◌, ◌++◌, length, map, ℤ, pos, negsuc, neg_ℤ, nat_abs, slice_index_or}
+use Rattle.std.specs.Prelude.{◌≡◌, ◌⊎◌, ◌↔◌, ℕ, ◌+◌, ◌*◌, ◌^◌, ◌%◌, ◌<◌, ◌≤◌, Bool, false, cond, List, [], ◌∷◌, ◌++◌, length, map, ℤ, pos, negsuc, neg_ℤ, slice_index_or}
 use Rattle.std.specs.List.{All, Contains}
 use Rattle.std.specs.Ordering.{int_eq}
 use Rattle.lattice_theory.specs.Vector.{dot}
 use Rattle.lattice_theory.specs.Affine.{Affine}
 use Rattle.lattice_theory.specs.Size.{absolute_sum}
 use Rattle.face_theory.specs.Pairings.{paired}
-use Rattle.cayley_theory.specs.Cones.{lifted, zero_vector}
+use Rattle.cayley_theory.specs.Cones.{zero_vector}
+pub use Rattle.cayley_theory.specs.Bases.{lifted_one, lifted_all}
 
--- the vector x of the part i, kept as a function; and the vector that is kept so, with the unit vector of its part behind it
+-- the vector x of the part i, kept as a function
 abbrev pub with_part : List ℤ → ℕ → Affine
 with_part x i = record { normal = x; constant = neg_ℤ (pos i) }
-
-abbrev pub lifted_one : ℕ → Affine → List ℤ
-lifted_one r f = lifted r f.normal (nat_abs f.constant)
-
-abbrev pub lifted_all : ℕ → List Affine → List (List ℤ)
-lifted_all r fs = map (lifted_one r) fs
 
 -- what is kept of the point at a place, of the part that the place has when parts take turns; of a normal with its part; and of n zeros with a part
 abbrev pub kept_point : List (List ℤ) → List ℕ → ℕ → ℕ → Affine

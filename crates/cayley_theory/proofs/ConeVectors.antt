@@ -4,6 +4,7 @@ use Rattle.std.proofs.lemmas.Bool.{cases_eq}
 use Rattle.std.proofs.lemmas.List.{length-append}
 use Rattle.std.proofs.lemmas.List.Elements.{All-contains, Contains-get_or}
 use Rattle.lattice_theory.specs.Vector.{dot, HaveDimension}
+use Rattle.lattice_theory.specs.Order.{LexLess}
 use Rattle.lattice_theory.proofs.Integers.{products_out, linear}
 use Rattle.lattice_theory.proofs.Vectors.{dot_comm}
 use Rattle.lattice_theory.proofs.Members.{all_from_each, each_from_in, contains_from_in}
@@ -30,6 +31,17 @@ dot_append [] [] b y e = omega (arith, linear)
 dot_append [] (x ∷ rest) b y e = absurd (omega arith)
 dot_append (a ∷ front) [] b y e = absurd (omega arith)
 dot_append (a ∷ front) (x ∷ rest) b y e = let f = dot_append front rest b y (omega arith) in omega (arith, linear)
+
+-- the order of vectors in two parts
+pub lex_append : (x y u v : List ℤ) → LexLess x y → LexLess (x ++ u) (y ++ v)
+lex_append [] y u v h = absurd h
+lex_append (a ∷ x) [] u v h = absurd h
+lex_append (a ∷ x) (b ∷ y) u v (inl l) = inl l
+lex_append (a ∷ x) (b ∷ y) u v (inr h) = inr (h.0, lex_append x y u v h.1)
+
+pub lex_behind : (x u v : List ℤ) → LexLess u v → LexLess (x ++ u) (x ++ v)
+lex_behind [] u v h = h
+lex_behind (a ∷ x) u v h = inr (refl, lex_behind x u v h)
 
 pub dot-zero_vector : (n : ℕ) (x : List ℤ) → dot (zero_vector n) x ≡ pos 0
 dot-zero_vector zero x = refl

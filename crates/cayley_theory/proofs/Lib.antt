@@ -2,3 +2,7 @@ pub mod PartPoints
 pub mod ConeVectors
 pub mod ConeCounts
 pub mod ExampleSteps
+pub mod Raised
+pub mod BasePoints
+pub mod Summed
+pub mod PairSums

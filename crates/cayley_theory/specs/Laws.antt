@@ -1,13 +1,18 @@
 -- The laws of Cayley cones, as statements.
-use Rattle.std.specs.Prelude.{◌≡◌, ℕ, ◌+◌, ◌≤◌, List, length, ℤ, pos, ◌≤ℤ◌, Bool}
+use Rattle.std.specs.Prelude.{◌≡◌, ℕ, ◌+◌, ◌≤◌, List, ◌++◌, length, ℤ, pos, ◌≤ℤ◌, Bool}
+use Rattle.std.specs.List.{All, Contains}
 use Rattle.lattice_theory.specs.Vector.{dot, HaveDimension}
+use Rattle.lattice_theory.specs.Affine.{Affine}
+use Rattle.lattice_theory.specs.Order.{Ascends, Lists, LexLess}
 use Rattle.lattice_theory.specs.Facet.{IsFacet}
 use Rattle.duality_theory.specs.Reflexive.{with_one}
+use Rattle.face_theory.specs.Sets.{set_size}
 use Rattle.face_theory.specs.Faces.{IsFace, IsRank}
 use Rattle.face_theory.specs.Pairings.{paired}
 use Rattle.nef_theory.specs.Nef.{IsPartPoint, IsNefPartition}
 use Rattle.cayley_theory.specs.Cones.{IsConeMember, IsConeFunction, AreConeMembers, AreConeFunctions}
-use Rattle.cayley_theory.specs.Counts.{CountsOnFace, CountsOnDualFace}
+use Rattle.cayley_theory.specs.Counts.{IsConePair, CountsOnFace, CountsOnDualFace}
+use Rattle.cayley_theory.specs.Bases.{lifted_all, HaveParts, HasDegree, HasBaseOf, AreFreeParts, Number, summed}
 
 -- where the function (m, 1) of a vertex m is a facet of the normals, as it is where these are all of a reflexive polytope's, a part has at most one
 -- point at the vertex
@@ -47,3 +52,13 @@ CountsAreSingle = (n r : ℕ) (members functions : List (List ℤ)) (face : List
 abbrev pub DualCountsAreSingle : Type 0
 DualCountsAreSingle = (n r : ℕ) (members : List (List ℤ)) (face : List Bool) (s j k : ℕ)
     → CountsOnDualFace n r members face s j → CountsOnDualFace n r members face s k → j ≡ k
+
+-- the integer vectors of a degree that are nonnegative on the vectors, and 0 on those of a set, are counted by bases: as often as a part is free,
+-- the numbers are summed of the points whose base is 0 on the set and has one degree after the other. The points are in order, have bases, and are
+-- at least all that these vectors have
+abbrev pub CountsByBases : Type 0
+CountsByBases = (n r : ℕ) (vs : List Affine) (set free : List Bool) (s : ℕ) (points : List (List ℤ)) (counts : ℕ → ℕ) → HaveParts n r vs
+    → length set ≡ length vs → AreFreeParts r vs set free → Ascends LexLess points → HaveDimension n points → All (HasDegree r vs) points
+    → ((x a : List ℤ) → IsConePair n r (lifted_all r vs) set s (x ++ a) → length x ≡ n → Contains points x)
+    → ((l : ℕ) → Number (HasBaseOf r vs set l) points (counts l))
+    → (pairs : List (List ℤ)) × Lists LexLess (IsConePair n r (lifted_all r vs) set s) pairs × (summed (set_size free) counts s ≡ length pairs)

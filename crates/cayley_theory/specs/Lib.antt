@@ -5,5 +5,6 @@ pub use Rattle.nef_theory.specs.Nef
 pub use Rattle.nef_theory.specs.Places
 pub mod Cones
 pub mod Counts
+pub mod Bases
 pub mod Laws
 pub mod Examples

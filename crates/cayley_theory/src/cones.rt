@@ -1,5 +1,5 @@
 //! What holds of the members, the functions and the faces of Cayley cones.
-ghost use Rattle.cayley_theory.specs.Laws.{PartPointsAreSingle, ConeLengths, PairingsAreNonnegative, ConeRankBound, ConesAreSingle, CountsAreSingle, DualCountsAreSingle};
+ghost use Rattle.cayley_theory.specs.Laws.{PartPointsAreSingle, ConeLengths, PairingsAreNonnegative, ConeRankBound, ConesAreSingle, CountsAreSingle, DualCountsAreSingle, CountsByBases};
 
 /// Where the function (m, 1) of a vertex m is a facet of the normals, a part has at most one point at the vertex.
 pub fn part_points_are_single()
@@ -34,4 +34,10 @@ pub fn counts_are_single()
 /// So has its dual face.
 pub fn dual_counts_are_single()
     ensures { DualCountsAreSingle }
+{}
+
+/// The integer vectors of a degree in a cone, or on a face, are counted by points alone: over a point the lowest heights are its base, and above it
+/// the parts that are free may rise. So the numbers of points by the degree of their base, summed as often as parts are free, tell them.
+pub fn counts_by_bases()
+    ensures { CountsByBases }
 {}
