@@ -1,7 +1,7 @@
 -- The worked examples, by computation.
 use Rattle.std.proofs.Common.{refl}
 use Rattle.std.specs.Fmt.{digits}
-use Rattle.palp_print.specs.Examples.{AreBlocks, AreLines, AreNotes}
+use Rattle.palp_print.specs.Examples.{AreBlocks, AreLines, ArePartitions, AreNotes}
 
 pub example_blocks : AreBlocks
 unfolding digits
@@ -9,7 +9,22 @@ example_blocks = record { columns_are = refl; rows_are = refl; equations_are = r
 
 pub example_lines : AreLines
 unfolding digits
-example_lines = record { echo_is = refl; body_is = refl; nef_is = refl; partition_is = refl; weights_are = refl; count_is = refl; sweep_is = refl }
+example_lines = record {
+  echo_is = refl;
+  body_is = refl;
+  plane_is = refl;
+  quartic_is = refl;
+  quintic_is = refl;
+  sextic_is = refl;
+  nef_is = refl;
+  weights_are = refl;
+  count_is = refl;
+  sweep_is = refl;
+}
+
+pub example_partitions : ArePartitions
+unfolding digits
+example_partitions = record { partition_is = refl; curve_is = refl; threefold_is = refl; curve_diamond_is = refl; quintic_diamond_is = refl }
 
 pub example_notes : AreNotes
 unfolding digits

@@ -1,4 +1,4 @@
--- Numbers with spaces between them, and what is made of them alone. This project's own.
+-- Numbers with spaces or commas between them, and what is made of them alone. This project's own.
 use Rattle.std.specs.Prelude.{ℕ, List, [], ◌∷◌, ◌++◌, codes}
 use Rattle.std.specs.Fmt.{decimal, signed_decimal}
 use Rattle.std.specs.List.{flat_map}
@@ -8,14 +8,25 @@ use Rattle.lattice_theory.specs.Affine.{Affine}
 abbrev pub before_spaces : {X : Type 0} → (X → List ℕ) → List X → List ℕ
 before_spaces text members = flat_map (λ x. text x ++ codes " ") members
 
+-- each with a mark in front of it
+abbrev pub behind : {X : Type 0} → List ℕ → (X → List ℕ) → List X → List ℕ
+behind mark text members = flat_map (λ x. mark ++ text x) members
+
+-- with a mark between each two
+abbrev pub separated : {X : Type 0} → List ℕ → (X → List ℕ) → List X → List ℕ
+separated mark text [] = []
+separated mark text (x ∷ members) = text x ++ behind mark text members
+
 -- each with a space in front of it
 abbrev pub behind_spaces : {X : Type 0} → (X → List ℕ) → List X → List ℕ
-behind_spaces text members = flat_map (λ x. codes " " ++ text x) members
+behind_spaces text members = behind (codes " ") text members
 
--- with a space between each two
+-- with a space between each two, and with a comma between each two
 abbrev pub spaced : {X : Type 0} → (X → List ℕ) → List X → List ℕ
-spaced text [] = []
-spaced text (x ∷ members) = text x ++ behind_spaces text members
+spaced text members = separated (codes " ") text members
+
+abbrev pub with_commas : {X : Type 0} → (X → List ℕ) → List X → List ℕ
+with_commas text members = separated (codes ",") text members
 
 -- a function: its normal's entries, each with a space behind it, and then its constant
 abbrev pub function_text : Affine → List ℕ

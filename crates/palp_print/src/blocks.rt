@@ -15,7 +15,7 @@ ghost use Rattle.palp_print.specs.Pages.{Appends};
 
 use crate::line::{Line, fixed, heading, put, put_function, titled};
 use crate::page::Page;
-use crate::rows::{put_behind_spaces, put_number, put_spaced};
+use crate::rows::{put_behind, put_number, put_separated};
 use crate::titles::{Title, dual_title, title_words};
 use lattice_core::{Functional, NoMemory, Point};
 
@@ -95,7 +95,7 @@ fn put_normals(text: &mut Vec<u8>, facets: &[Functional]) -> Result<(), NoMemory
     ensures { OnOk result (text.new.items ≡ text.old.items ++ flat_map normal_line facets.now) }
 {
     for facet in facets {
-        put_spaced(text, facet.normal())?;
+        put_separated(text, b' ', facet.normal())?;
         text.push(b'\n')?;
     }
     Ok(())
@@ -256,7 +256,7 @@ fn put_face_counts(text: &mut Vec<u8>, counts: &[u32]) -> Result<(), NoMemory>
     ensures { OnOk result (text.new.items ≡ text.old.items ++ face_counts counts.now) }
 {
     text.extend_from_slice(b"Faces:")?;
-    put_behind_spaces(text, counts)?;
+    put_behind(text, b' ', counts)?;
     text.push(b'\n')?;
     Ok(())
 }

@@ -9,6 +9,7 @@ mod line;
 mod lists;
 mod notes;
 mod page;
+mod partitions;
 mod rows;
 #[cfg(test)]
 mod tests;

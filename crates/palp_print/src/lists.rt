@@ -1,15 +1,20 @@
-//! Single lines: of weights, of counts, of parts.
+//! Single lines: of weights, and of counts.
 
-ghost use Rattle.std.specs.Prelude.{◌≡◌, ◌++◌, length, OnOk};
+ghost use Rattle.std.specs.Prelude.{◌≡◌, ◌+◌, ◌≤◌, ◌++◌, length, OnOk};
 ghost use Rattle.lattice_core.specs.Weights.{weighted, weighted_all};
-ghost use Rattle.palp_print.specs.Lists.{echo as echo_of, body_line as body_line_of, nef_line as nef_line_of, partition as partition_of};
+ghost use Rattle.palp_print.specs.Lists.{echo as echo_of, body_line as body_line_of, nef_line as nef_line_of};
+ghost use Rattle.palp_print.specs.Lists.{numbers_text, pair_line as pair_line_of};
+ghost use Rattle.batyrev.specs.declared.line.HodgeLine.TheVariants as HodgeLine;
+ghost use Rattle.arrayvec.specs.ArrayVec.{array_vec_len};
+ghost use Rattle.std.specs.Fmt.{signed_decimal};
 ghost use Rattle.palp_print.specs.Lists.{weights_line, closing as closing_of, sweep_line as sweep_line_of};
 ghost use Rattle.palp_print.specs.Pages.{Appends};
 
 use crate::line::{Line, fixed, put, put_number};
 use crate::page::Page;
-use crate::rows::{put_before_spaces, put_behind_spaces, put_number as put_wide, put_spaced};
+use crate::rows::{put_before_spaces, put_behind, put_number as put_wide};
 use crate::titles::{CountTitle, count_words};
+use batyrev::HodgeLine;
 use lattice_core::{NoMemory, WeightSystem};
 
 /// Appends the numbers of weight systems, each with a space behind it.
@@ -28,19 +33,7 @@ fn put_weights(text: &mut Vec<u8>, system: &WeightSystem) -> Result<(), NoMemory
     ensures { OnOk result (text.new.items ≡ text.old.items ++ weights_line (weighted system.now)) }
 {
     put_wide(text, system.degree)?;
-    put_behind_spaces(text, system.weights.as_slice())?;
-    text.push(b'\n')?;
-    Ok(())
-}
-
-/// Appends a partition with its number.
-fn put_partition(text: &mut Vec<u8>, number: u64, part_of: &[u8]) -> Result<(), NoMemory>
-    ensures { OnOk result (text.new.items ≡ text.old.items ++ partition_of number part_of.now) }
-{
-    text.extend_from_slice(b"P:")?;
-    put_wide(text, number)?;
-    text.extend_from_slice(b" V:")?;
-    put_spaced(text, part_of)?;
+    put_behind(text, b' ', system.weights.as_slice())?;
     text.push(b'\n')?;
     Ok(())
 }
@@ -55,6 +48,79 @@ fn body(points: u64, vertices: u64, facets: u64) -> Line
     put_number(&mut line, vertices);
     put(&mut line, b" F:");
     put_number(&mut line, facets);
+    put(&mut line, b"\n");
+    line
+}
+
+/// Appends two numbers, each with a text in front of it, for which there is room.
+fn put_two(line: &mut Line, text: &[u8], number: i128, next_text: &[u8], next: i128)
+    requires room { array_vec_len line.old ≤ 300 }
+    requires text { length text.now ≤ 10 }
+    requires next_text { length next_text.now ≤ 10 }
+    ensures bytes { line.new.items ≡ line.old.items ++ (text.now ++ (signed_decimal number ++ (next_text.now ++ signed_decimal next))) }
+    ensures len { array_vec_len line.new ≤ array_vec_len line.old + 100 }
+{
+    put(line, text);
+    put_number(line, number);
+    put(line, next_text);
+    put_number(line, next);
+}
+
+/// Appends the numbers of dimension 4, for which there is room.
+fn put_threefold(line: &mut Line, h11: i128, h21: i128, euler: i128)
+    requires { array_vec_len line.old ≤ 200 }
+    ensures bytes { line.new.items ≡ line.old.items ++ numbers_text (HodgeLine.Three h11 h21 euler) }
+    ensures len { array_vec_len line.new ≤ array_vec_len line.old + 250 }
+{
+    put_two(line, b" H:", h11, b",", h21);
+    put(line, b" [");
+    put_number(line, euler);
+    put(line, b"]");
+}
+
+/// Appends those of dimension 5, for which there is room.
+fn put_fourfold(line: &mut Line, h11: i128, h21: i128, h31: i128, euler: i128)
+    requires { array_vec_len line.old ≤ 200 }
+    ensures bytes { line.new.items ≡ line.old.items ++ numbers_text (HodgeLine.Four h11 h21 h31 euler) }
+    ensures len { array_vec_len line.new ≤ array_vec_len line.old + 250 }
+{
+    put_two(line, b" H:", h11, b",", h21);
+    put_two(line, b",", h31, b" [", euler);
+    put(line, b"]");
+}
+
+/// Appends Batyrev's numbers, for which there is room.
+fn put_numbers(line: &mut Line, numbers: &HodgeLine)
+    requires { array_vec_len line.old ≤ 200 }
+    ensures bytes { line.new.items ≡ line.old.items ++ numbers_text numbers.now }
+    ensures len { array_vec_len line.new ≤ array_vec_len line.old + 250 }
+{
+    match numbers {
+        HodgeLine::None => {}
+        HodgeLine::Pic { pic, cor } => put_two(line, b" Pic:", *pic, b" Cor:", *cor),
+        HodgeLine::Three { h11, h21, euler } => put_threefold(line, *h11, *h21, *euler),
+        HodgeLine::Four {
+            h11,
+            h21,
+            h31,
+            euler,
+        } => put_fourfold(line, *h11, *h21, *h31, *euler),
+    }
+}
+
+/// The line of the numbers of points and vertices of a reflexive polytope and its dual, with Batyrev's numbers.
+fn pair(m_points: u64, m_vertices: u64, n_points: u64, n_vertices: u64, tail: &HodgeLine) -> Line
+    ensures { result.items ≡ pair_line_of m_points m_vertices n_points n_vertices tail.now }
+{
+    let mut line = fixed(b"M:");
+    put_number(&mut line, m_points);
+    put(&mut line, b" ");
+    put_number(&mut line, m_vertices);
+    put(&mut line, b" N:");
+    put_number(&mut line, n_points);
+    put(&mut line, b" ");
+    put_number(&mut line, n_vertices);
+    put_numbers(&mut line, tail);
     put(&mut line, b"\n");
     line
 }
@@ -121,6 +187,21 @@ impl Page {
         self.append(body(points, vertices, facets).as_slice())
     }
 
+    /// Appends the line of the numbers of lattice points and vertices of a reflexive polytope and of its dual, with Batyrev's numbers,
+    /// `M:points vertices N:points vertices` and ` Pic:pic Cor:cor`, ` H:h11,h21 [euler]`, ` H:h11,h21,h31 [euler]` or nothing.
+    pub fn pair_line(
+        &mut self,
+        m_points: u64,
+        m_vertices: u64,
+        n_points: u64,
+        n_vertices: u64,
+        tail: &HodgeLine,
+    ) -> Result<(), NoMemory>
+        ensures { Appends (pair_line_of m_points m_vertices n_points n_vertices tail.now) self.old self.new result }
+    {
+        self.append(pair(m_points, m_vertices, n_points, n_vertices, tail).as_slice())
+    }
+
     /// Appends the line of the numbers of lattice points and vertices of a polytope and of its dual, and a codimension,
     /// `M:points vertices N:points vertices codim=r`.
     pub fn nef_line(
@@ -134,16 +215,6 @@ impl Page {
         ensures { Appends (nef_line_of m_points m_vertices n_points n_vertices codim) self.old self.new result }
     {
         self.append(nef(m_points, m_vertices, n_points, n_vertices, codim).as_slice())
-    }
-
-    /// Appends a partition with its number, `P:number V:` and the part numbers with spaces between them.
-    pub fn partition(&mut self, number: u64, part_of: &[u8]) -> Result<(), NoMemory>
-        ensures { Appends (partition_of number part_of.now) self.old self.new result }
-    {
-        self.draft.clear();
-        put_partition(&mut self.draft, number, part_of)?;
-        self.text.extend_from_slice(&self.draft)?;
-        Ok(())
     }
 
     /// Appends the line of a weight system: its degree and its weights.

@@ -1,7 +1,7 @@
-//! Rows of numbers with spaces between them.
+//! Rows of numbers with marks between them.
 
-ghost use Rattle.std.specs.Prelude.{◌≡◌, ◌++◌, OnOk};
-ghost use Rattle.palp_print.specs.Texts.{before_spaces, behind_spaces, spaced};
+ghost use Rattle.std.specs.Prelude.{◌≡◌, [], ◌∷◌, ◌++◌, OnOk};
+ghost use Rattle.palp_print.specs.Texts.{before_spaces, behind, separated};
 
 use itoa::{Buffer, Integer};
 use lattice_core::NoMemory;
@@ -15,15 +15,16 @@ pub(crate) fn put_number<I: Integer>(text: &mut Vec<u8>, number: I) -> Result<()
     Ok(())
 }
 
-/// Appends numbers, each with a space in front of it.
-pub(crate) fn put_behind_spaces<I: Integer>(
+/// Appends numbers, each with a mark in front of it.
+pub(crate) fn put_behind<I: Integer>(
     text: &mut Vec<u8>,
+    mark: u8,
     numbers: &[I],
 ) -> Result<(), NoMemory>
-    ensures { OnOk result (text.new.items ≡ text.old.items ++ (behind_spaces I.text numbers.now)) }
+    ensures { OnOk result (text.new.items ≡ text.old.items ++ (behind (mark ∷ []) I.text numbers.now)) }
 {
     for number in numbers {
-        text.push(b' ')?;
+        text.push(mark)?;
         put_number(text, *number)?;
     }
     Ok(())
@@ -43,13 +44,17 @@ pub(crate) fn put_before_spaces<I: Integer>(
     Ok(())
 }
 
-/// Appends numbers with a space between each two.
-pub(crate) fn put_spaced<I: Integer>(text: &mut Vec<u8>, numbers: &[I]) -> Result<(), NoMemory>
-    ensures { OnOk result (text.new.items ≡ text.old.items ++ (spaced I.text numbers.now)) }
+/// Appends numbers with a mark between each two.
+pub(crate) fn put_separated<I: Integer>(
+    text: &mut Vec<u8>,
+    mark: u8,
+    numbers: &[I],
+) -> Result<(), NoMemory>
+    ensures { OnOk result (text.new.items ≡ text.old.items ++ (separated (mark ∷ []) I.text numbers.now)) }
 {
     if let [first, rest @ ..] = numbers {
         put_number(text, *first)?;
-        put_behind_spaces(text, rest)?;
+        put_behind(text, mark, rest)?;
     }
     Ok(())
 }

@@ -1,6 +1,7 @@
 //! Each layout, against its text.
 
 use crate::{CountTitle, Note, Page, Title, note_line};
+use batyrev::HodgeLine;
 use lattice_core::{Functional, LimitName, Point, Refusal, WeightSystem};
 use palp_input::{TextFault, TextKind};
 use palp_words::{WordFault, WordKind};
@@ -51,6 +52,19 @@ fn prints_equations(rt: HostRuntime) -> Result<(), Fail> {
 }
 
 #[test]
+fn prints_a_pair_with_its_numbers(rt: HostRuntime) -> Result<(), Fail> {
+    let mut page = Page::new(rt.alloc())?;
+    let numbers = HodgeLine::Three {
+        h11: 1,
+        h21: 101,
+        euler: -200,
+    };
+    page.pair_line(126, 5, 6, 5, &numbers)?;
+    assert!(rt; page.bytes() == b"M:126 5 N:6 5 H:1,101 [-200]\n".as_slice());
+    Ok(())
+}
+
+#[test]
 fn prints_a_pairing(rt: HostRuntime) -> Result<(), Fail> {
     let mut page = Page::new(rt.alloc())?;
     let facet = Functional::new(&[-1, -1], 1).expect(&rt, "two entries");
@@ -90,6 +104,15 @@ fn prints_partitions(rt: HostRuntime) -> Result<(), Fail> {
     page.partition(2, &[0, 0, 1, 0])?;
     page.closing(CountTitle::Nef, 7)?;
     assert!(rt; page.bytes() == b"M:35 4 N:5 4 codim=2\nP:2 V:0 0 1 0\n#nef:7\n".as_slice());
+    Ok(())
+}
+
+#[test]
+fn prints_partitions_with_their_numbers(rt: HostRuntime) -> Result<(), Fail> {
+    let mut page = Page::new(rt.alloc())?;
+    page.partition_with(3, &[0, 0, 0, 0, 1, 1], &[1, 89], -176)?;
+    page.diamond(1, &[1, 1, 1, 1])?;
+    assert!(rt; page.bytes() == b"P:3 V:0 0 0 0 1 1 H:1,89 [-176]\nh0: 1 1\nh1: 1 1\n".as_slice());
     Ok(())
 }
 

@@ -1,8 +1,0 @@
-use Rattle.std.proofs.Common.{◌≡◌, ◌++◌, take}
-use Rattle.palp_print.specs.Texts.{behind_spaces}
-use Rattle.palp_print.proofs.rows.put_behind_spaces.Given as goal
-
-abbrev pub invariant-loop-number : goal.invariant-loop-number
-invariant-loop-number g l = record {
-  written : l.text.items ≡ l.initial.text.items ++ behind_spaces g.I.Integer.text (take l.number-index l.numbers);
-}
