@@ -8,3 +8,4 @@ pub mod SmallPoints
 pub mod FoundFaces
 pub mod Counts
 pub mod Insides
+pub mod SingleRefusals

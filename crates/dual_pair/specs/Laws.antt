@@ -1,8 +1,8 @@
 -- The laws of polytopes.
-use Rattle.std.specs.Prelude.{◌≡◌, List, ℤ}
+use Rattle.std.specs.Prelude.{◌≡◌, ◌<◌, List, length, ℤ}
 use Rattle.lattice_core.specs.Dimensions.{dimension_of}
 use Rattle.lattice_core.specs.declared.faults.Refusal.{Refusal}
-use Rattle.dual_pair.specs.Polytopes.{PolytopeState, IsPolytopeOf, IsPolytope}
+use Rattle.dual_pair.specs.Polytopes.{PolytopeState, IsPolytopeOf, IsPolytope, HasNoPolytope}
 use Rattle.dual_pair.specs.Pairs.{PairState, IsPair, exchanged, HasNoDual}
 
 -- the polytope of points is that of its vertices, of the same dimension
@@ -25,3 +25,18 @@ ExchangedPairs = (pair : PairState) → IsPair pair → IsPair (exchanged pair)
 -- no limit is exceeded on the way back
 abbrev pub NoLimitOnTheWayBack : Type 0
 NoLimitOnTheWayBack = (pair : PairState) → IsPair pair → (cause : Refusal) → HasNoDual pair.n cause → ⊥
+
+-- points are refused for no two causes, and not where they have a polytope
+abbrev pub OnePolytopeRefusal : Type 0
+OnePolytopeRefusal = (points : List (List ℤ)) (cause other : Refusal) → 0 < length points → HasNoPolytope points cause → HasNoPolytope points other
+    → cause ≡ other
+
+abbrev pub PolytopeOrRefusal : Type 0
+PolytopeOrRefusal = (points : List (List ℤ)) (p : PolytopeState) (cause : Refusal) → IsPolytopeOf points p → HasNoPolytope points cause → ⊥
+
+-- a dual is refused for no two causes, and not where there is one
+abbrev pub OneDualRefusal : Type 0
+OneDualRefusal = (p : PolytopeState) (cause other : Refusal) → HasNoDual p cause → HasNoDual p other → cause ≡ other
+
+abbrev pub DualOrRefusal : Type 0
+DualOrRefusal = (pair : PairState) (cause : Refusal) → IsPair pair → HasNoDual pair.m cause → ⊥

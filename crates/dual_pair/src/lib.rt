@@ -17,8 +17,8 @@ mod side;
 
 pub use faces::FacesFault;
 pub use laws::{
-    exchanged_pairs, no_limit_on_the_way_back, pairs_are_single, polytope_of_vertices,
-    polytopes_are_single,
+    dual_refusals_are_single, exchanged_pairs, no_limit_on_the_way_back, pairs_are_single,
+    polytope_of_vertices, polytope_refusals_are_single, polytopes_are_single,
 };
 pub use pair::{DualPair, Kind};
 pub use partition::Partition;

@@ -9,3 +9,4 @@ pub mod RowAgreements
 pub mod BeginningSteps
 pub mod SearchSteps
 pub mod Giving
+pub mod FirstPartitions

@@ -21,7 +21,7 @@ module _ (pair : PairState) (is : IsPair pair) where
   abbrev n : ℕ
   n = dimension_of pair.m.vertices
 
-  least : AreAtLeastMinusOne n pair.n.vertices pair.m.points
+  pub least : AreAtLeastMinusOne n pair.n.vertices pair.m.points
   least = points_by_normals_lem n pair.m.vertices pair.n.vertices pair.m.points (lists pair.m is.polytope is.reflexive).solid is.reflexive
       (record { facets = pair.m.facets; are_facets = is.polytope.facets_are.members; same = is.dual.vertices_are })
       is.polytope.points_are

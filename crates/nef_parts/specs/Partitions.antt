@@ -48,3 +48,13 @@ pub record IsPointAt (l : PairLists) (parts : List ℕ) (v i place : ℕ) : Type
 pub record ArePointsOf (l : PairLists) (r : ℕ) (parts places : List ℕ) : Type 0 where
   pub count : length places ≡ length l.vertices * r
   pub are : (v i : ℕ) → v < length l.vertices → i < r → IsPointAt l parts v i (slice_index_or places (v * r + i) 0)
+
+-- lists of part numbers as integers
+abbrev pub vectors : List (List ℕ) → List (List ℤ)
+vectors xs = map (λ (parts : List ℕ). map pos parts) xs
+
+-- the first so many nef partitions, in order: the list of all begins with them
+pub record AreFirstPartitions (l : PairLists) (r count : ℕ) (xs : List (List ℕ)) : Type 0 where
+  pub behind : List (List ℤ)
+  pub are_partitions : AreNefPartitions l r (vectors xs ++ behind)
+  pub count_is : length xs ≡ count

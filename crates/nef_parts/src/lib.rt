@@ -8,11 +8,13 @@
 
 mod agreeing;
 mod beginnings;
+mod laws;
 mod masks;
 mod pairings;
 mod partitions;
 mod search;
 
 pub use beginnings::MOST_PARTS;
+pub use laws::{first_partitions_law, partitions_are_single};
 pub use masks::Masks;
 pub use partitions::NefSearch;
