@@ -1,0 +1,5 @@
+mod RowDifferences
+mod Coefficients
+mod Signs
+mod RangeSums
+mod MadeStars

@@ -1,0 +1,4 @@
+pub use Rattle.lattice_theory.specs.Vector
+pub use Rattle.polynomial_theory.specs.Sums
+pub use Rattle.stringy_theory.specs.HStar
+pub mod Numbers
