@@ -1,4 +1,4 @@
-//! The numbers of the quintic and of its mirror.
+//! The numbers of the quartic and the quintic, and of their mirrors.
 use crate::{HodgeLine, hodge};
 use bit_pool::RowPool;
 use dual_pair::{DualPair, Kind, Polytope};
@@ -47,5 +47,23 @@ fn tells_the_quintic_and_its_mirror(rt: HostRuntime) -> Result<(), Fail> {
         euler: -200,
     };
     assert_eq!(rt; numbers(rt.alloc(), &pair.swap())?, quintic);
+    Ok(())
+}
+
+#[test]
+fn tells_the_quartic_and_its_mirror(rt: HostRuntime) -> Result<(), Fail> {
+    let points = [
+        Point::new(&[1, 0, 0]).expect(&rt, "three entries"),
+        Point::new(&[0, 1, 0]).expect(&rt, "three entries"),
+        Point::new(&[0, 0, 1]).expect(&rt, "three entries"),
+        Point::new(&[-1, -1, -1]).expect(&rt, "three entries"),
+    ];
+    let Kind::Reflexive(pair) = DualPair::of(rt.alloc(), Polytope::of(rt.alloc(), &points)?)? else {
+        return Err(Fail::new("reflexive"));
+    };
+    let mirror = HodgeLine::Pic { pic: 19, cor: 0 };
+    assert_eq!(rt; numbers(rt.alloc(), &pair)?, mirror);
+    let quartic = HodgeLine::Pic { pic: 1, cor: 0 };
+    assert_eq!(rt; numbers(rt.alloc(), &pair.swap())?, quartic);
     Ok(())
 }
