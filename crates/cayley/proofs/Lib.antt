@@ -4,3 +4,4 @@ pub mod Tables
 pub mod PairFacts
 pub mod ConeMade
 pub mod TopRanks
+mod FoundPartitions

@@ -17,7 +17,7 @@ mod tight;
 mod vectors;
 
 pub use cone::Cone;
-pub use laws::cone_top_rank_bound;
+pub use laws::{cone_top_rank_bound, found_are_partitions};
 pub use limits::{MOST_RANK, MOST_SCANNED};
 pub use scans::{rank_limits, scan_limits};
 
