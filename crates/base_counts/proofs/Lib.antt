@@ -1,0 +1,2 @@
+pub mod TopSteps
+pub mod Degrees
