@@ -1,0 +1,5 @@
+pub mod SingleListings
+pub mod SingleSteps
+pub mod ItemSteps
+pub mod SearchSteps
+pub mod ListingSteps

@@ -1,0 +1,4 @@
+pub mod Items
+pub mod Partitions
+pub mod Answers
+pub mod Laws
