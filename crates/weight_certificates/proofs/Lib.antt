@@ -1,5 +1,5 @@
 pub mod Sums
-mod Surrounding
+pub mod Surrounding
 mod Checks
 mod Refuting
 mod TestSizes

@@ -14,6 +14,7 @@ use Rattle.interior_point_theory.specs.Interior.{HasInteriorPoint, system_of, on
 use Rattle.interior_point_theory.specs.Around.{HasTails, IsTail}
 use Rattle.interior_point_theory.proofs.Tails.{interior_by_tails_lem}
 use Rattle.weight_points.specs.steps.Waits.{spent}
+use Rattle.weight_tails.proofs.LastWeights.{takes_ones}
 use Rattle.weight_points.proofs.Integral.{monomial_from_solution}
 
 -- facets with positive constants
@@ -39,11 +40,7 @@ none_where_flat n system tails f has flat interior =
       vanishes = flat.vanishes;
     })
 
--- each exponent once is an exponent vector
-takes_ones : (weights : List ℕ) → spent weights (ones (length weights)) ≡ total weights
-takes_ones [] = refl
-takes_ones (w ∷ weights) = omega (arith, takes_ones weights)
-
+-- the exponent vector of ones
 length_ones : (n : ℕ) → length (ones n) ≡ n
 length_ones zero = refl
 length_ones (suc n) = ap (λ (m : ℕ). suc m) (length_ones n)

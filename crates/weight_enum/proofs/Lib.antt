@@ -7,4 +7,6 @@ mod Listing
 mod Places
 mod Fronts
 mod FirstSystems
+mod TwiceTaken
+mod LevelBeginnings
 pub mod Refuting

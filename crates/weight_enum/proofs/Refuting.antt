@@ -1,14 +1,16 @@
 -- Tails at which functions that were kept are tried.
-use Rattle.std.proofs.Common.{◌≡◌, ℕ, ◌+◌, ◌^◌, ◌≤◌, List, ℤ, nat_abs, All, ap, arith}
+use Rattle.std.proofs.Common.{◌≡◌, ◌↔◌, ℕ, ◌+◌, ◌^◌, ◌≤◌, Bool, true, false, Some, List, ℤ, nat_abs, All, refl, ap, arith}
+use Rattle.std.specs.Prelude.{IsTrue}
+use Rattle.std.proofs.lemmas.Bool.{false≢true}
 use Rattle.lattice_theory.specs.Affine.{Affine}
 use Rattle.lattice_theory.specs.Size.{absolute_sum}
 use Rattle.lattice_theory.proofs.Members.{In, each_weaker, each_from_in, each_from_all, all_from_each, contains_from_in}
 use Rattle.lattice_core.specs.ValueWidths.{IsNarrowAt}
 use Rattle.interior_point_theory.specs.Interior.{HasInteriorPoint, system_of}
 use Rattle.interior_point_theory.specs.Around.{HasTails}
-use Rattle.interior_point_theory.proofs.Tails.{refuters_refute_lem}
+use Rattle.interior_point_theory.proofs.Tails.{refuters_refute_lem, surrounded_tails_confirm_lem}
 use Rattle.weight_tails.proofs.Sizes.{tails_are_small_lem}
-use Rattle.weight_enum.specs.steps.Refuters.{IsSmallLinear, HasRefuter}
+use Rattle.weight_enum.specs.steps.Refuters.{IsSmallLinear, HasRefuter, IsVerdict}
 
 -- values of small functions are narrow
 pub small_narrow : (n : ℕ) (f : Affine) (points : List (List ℤ)) → IsSmallLinear n f → All (λ y. absolute_sum y ≤ 8192) points
@@ -32,3 +34,9 @@ tails_summed degree n weights tails has limit = all_from_each {P = λ y. absolut
 pub refuted : (degree n : ℕ) (weights : List ℕ) (tails : List (List ℤ)) → HasTails n (system_of degree weights) tails → HasRefuter n tails
     → HasInteriorPoint (system_of degree weights) → ⊥
 refuted degree n weights tails has (f, is) interior = refuters_refute_lem n (system_of degree weights) tails f has is interior
+
+-- what is told of tails is so
+pub told : (degree n : ℕ) (weights : List ℕ) (tails : List (List ℤ)) → HasTails n (system_of degree weights) tails → (answer : Bool)
+    → IsVerdict n tails (Some answer) → IsTrue answer ↔ HasInteriorPoint (system_of degree weights)
+told degree n weights tails has true v = (λ e. surrounded_tails_confirm_lem n (system_of degree weights) tails has v, λ h. refl)
+told degree n weights tails has false v = (λ e. absurd (false≢true e), λ h. absurd (refuted degree n weights tails has v h))

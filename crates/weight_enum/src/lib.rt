@@ -5,6 +5,7 @@
 //! degrees, each once, by degree and then by weights; `is_ip` answers true exactly for such systems.
 #![tactic(auto)]
 
+mod certificates;
 mod cuts;
 mod degrees;
 mod interior;
@@ -12,6 +13,7 @@ mod laws;
 mod primitive;
 mod refuters;
 mod search;
+mod simplex;
 mod weights;
 
 pub use degrees::systems_of_degree;

@@ -35,7 +35,7 @@ fn is_small(f: &Functional, n: usize) -> bool
 
 /// Whether a function is small enough to be tried, and refutes that the points are around the origin.
 #[tactic(auto, using(crate::proofs::Refuting::small_narrow))]
-fn refutes(f: &Functional, points: &[Point], n: usize) -> bool
+pub(crate) fn refutes(f: &Functional, points: &[Point], n: usize) -> bool
     requires dimension { HaveDimension n points.now }
     requires small { All (λ y. absolute_sum y ≤ 8_192) points.now }
     ensures { IsTrue result → IsRefuter n points.now f.now.normal }
@@ -51,36 +51,38 @@ impl Refuters {
         }
     }
 
-    /// Whether one of them refutes that the points are around the origin.
-    pub(crate) fn refute(&self, points: &[Point], n: usize) -> bool
+    /// Whether one of them refutes that the points are around the origin. It is tried earlier the next time.
+    pub(crate) fn refute(&mut self, points: &[Point], n: usize) -> bool
         requires dimension { HaveDimension n points.now }
         requires small { All (λ y. absolute_sum y ≤ 8_192) points.now }
         ensures { IsTrue result → HasRefuter n points.now }
     {
-        for f in self.functions.iter() {
-            if refutes(f, points, n) {
+        for i in 0..self.functions.len() {
+            if refutes(&self.functions[i], points, n) {
+                self.functions.swap(i, i.saturating_sub(1));
                 return true;
             }
         }
         false
     }
 
-    /// Keeps the normal of a facet, without its constant, in the place of the oldest where there is no room.
-    fn add(&mut self, facet: &Functional) -> Result<(), NoMemory> {
-        if let Some(linear) = Functional::new(facet.normal(), 0) {
-            if self.functions.len() >= MOST_REFUTERS {
-                self.functions.remove(0);
-            }
-            self.functions.push(linear)?;
+    /// Keeps a linear function, in the place of the eldest of those that have seldom refuted where there is no room.
+    pub(crate) fn add(&mut self, linear: Functional) -> Result<(), NoMemory> {
+        if self.functions.len() >= MOST_REFUTERS {
+            self.functions.remove(MOST_REFUTERS / 2);
         }
+        self.functions.push(linear)?;
         Ok(())
     }
 
-    /// Keeps the first of the facets whose constant isn't positive: its normal refutes their points.
+    /// Keeps the normal of the first of the facets whose constant isn't positive: it refutes their points.
     pub(crate) fn keep(&mut self, facets: &[Functional]) -> Result<(), NoMemory> {
         for facet in facets {
             if facet.constant() <= 0 {
-                return self.add(facet);
+                return match Functional::new(facet.normal(), 0) {
+                    Some(linear) => self.add(linear),
+                    None => Ok(()),
+                };
             }
         }
         Ok(())

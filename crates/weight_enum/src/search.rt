@@ -5,7 +5,7 @@ ghost use Rattle.weight_enum.specs.Searched.{GivesSystem};
 ghost use Rattle.weight_enum.specs.Taken.{AreSearched};
 ghost use Rattle.weight_enum.specs.steps.Places.{KeepsPlace, IsFilled};
 
-use crate::degrees::systems_of_degree;
+use crate::degrees::{Found, systems_kept};
 use lattice_core::{NoMemory, WeightSystem};
 use std::alloc::Global;
 use std::marker::Model;
@@ -31,6 +31,7 @@ pub struct IpSearch {
     high: u32,
     given: u128,
     listed: Listed,
+    found: Found,
 }
 
 impl Model for IpSearch {
@@ -56,7 +57,13 @@ fn copied(alloc: Global, system: &WeightSystem) -> Result<WeightSystem, NoMemory
 }
 
 /// Lists the systems of the next degrees, until one is left to give or no degree is left.
-fn fill(alloc: Global, dim: u32, high: u32, listed: &mut Listed) -> Result<(), NoMemory>
+fn fill(
+    alloc: Global,
+    dim: u32,
+    high: u32,
+    listed: &mut Listed,
+    found: &mut Found,
+) -> Result<(), NoMemory>
     requires searched { AreSearched high (dim + 1) }
     ensures kept { KeepsPlace dim high listed.old listed.new }
     ensures filled { OnOk result (IsFilled high listed.new) }
@@ -65,7 +72,7 @@ fn fill(alloc: Global, dim: u32, high: u32, listed: &mut Listed) -> Result<(), N
         if listed.place < listed.systems.len() {
             return Ok(());
         }
-        listed.systems = systems_of_degree(alloc, dim as usize + 1, u64::from(degree))?;
+        listed.systems = systems_kept(alloc, dim as usize + 1, u64::from(degree), found)?;
         listed.place = 0;
         listed.next = degree + 1;
     }
@@ -93,6 +100,7 @@ impl IpSearch {
             high,
             given: 0,
             listed,
+            found: Found::new(alloc),
         })
     }
 
@@ -102,7 +110,13 @@ impl IpSearch {
         ensures gives { IfOk result (GivesSystem self.old self.new) }
         ensures unchanged { OnErr result (self.new ≡ self.old) }
     {
-        fill(self.alloc, self.dim, self.high, &mut self.listed)?;
+        fill(
+            self.alloc,
+            self.dim,
+            self.high,
+            &mut self.listed,
+            &mut self.found,
+        )?;
         match self.listed.systems.get(self.listed.place) {
             None => Ok(None),
             Some(system) => {

@@ -17,7 +17,7 @@ fn weights_with_an_interior_point_are_a_system(rt: HostRuntime) -> Result<(), Fa
     assert!(rt; is_ip(rt.alloc(), &[1, 2, 3])?);
     assert!(rt; is_ip(rt.alloc(), &[1, 1, 1, 1, 1])?);
     assert!(rt; !is_ip(rt.alloc(), &[1, 1, 3])?);
-    assert!(rt; !is_ip(rt.alloc(), &[2, 1, 1])?);
+    assert!(rt; !is_ip(rt.alloc(), &[2, 1, 3])?);
     assert!(rt; !is_ip(rt.alloc(), &[2, 2, 2])?);
     Ok(())
 }
@@ -73,6 +73,18 @@ fn search_goes_from_degree_to_degree(rt: HostRuntime) -> Result<(), Fail> {
     assert!(rt; gives(&mut search, &[1, 1, 2])?);
     assert!(rt; gives(&mut search, &[1, 2, 3])?);
     assert!(rt; gives(&mut search, &[])?);
+    assert!(rt; gives(&mut search, &[])?);
+    Ok(())
+}
+
+// There are 95 of them, and the last has the degree 66.
+#[test]
+fn search_gives_the_families_of_k3_surfaces(rt: HostRuntime) -> Result<(), Fail> {
+    let mut search = IpSearch::new(rt.alloc(), 3, 4, 66)?;
+    for _ in 0..94 {
+        assert!(rt; search.next()?.is_some());
+    }
+    assert!(rt; gives(&mut search, &[5, 6, 22, 33])?);
     assert!(rt; gives(&mut search, &[])?);
     Ok(())
 }

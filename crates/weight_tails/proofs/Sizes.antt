@@ -1,10 +1,10 @@
 -- How large tails are.
-use Rattle.std.proofs.Common.{◌≡◌, ℕ, ◌+◌, ◌*◌, ◌≤◌, List, [], ◌∷◌, length, map, drop, ℤ, pos, ◌-ℤ◌, nat_abs, refl, sym, ap, ◌∙◌, subst, arith}
+use Rattle.std.proofs.Common.{◌≡◌, ℕ, ◌+◌, ◌*◌, ◌≤◌, List, [], ◌∷◌, length, map, drop, ℤ, pos, ◌-ℤ◌, nat_abs, sym, ap, ◌∙◌, subst, arith}
 use Rattle.std.proofs.lemmas.Int.{ints}
 use Rattle.std.proofs.lemmas.List.{length-map}
 use Rattle.std.proofs.Math.Nat.{mul-le-mul_right}
 use Rattle.lattice_theory.specs.Size.{absolute_sum}
-use Rattle.lattice_theory.proofs.Members.{Each, empty, more, each_from_all}
+use Rattle.lattice_theory.proofs.Members.{Each, more, each_from_all}
 use Rattle.lattice_core.specs.Weights.{Weighted, monomial_point, total}
 use Rattle.weight_points.specs.steps.Waits.{spent}
 use Rattle.weight_points.proofs.Integral.{solution_of}

@@ -1,9 +1,10 @@
 -- The listing of the systems of a degree. This project's own.
-use Rattle.std.specs.Prelude.{◌≡◌, ℕ, ◌+◌, ◌≤◌, List, ◌++◌, length, map}
+use Rattle.std.specs.Prelude.{◌≡◌, ℕ, ◌+◌, ◌<◌, ◌≤◌, List, ◌++◌, length, map, take}
 use Rattle.std.specs.List.{All}
 use Rattle.lattice_theory.specs.Order.{Lists}
 use Rattle.lattice_core.specs.Weights.{Weighted, total}
 use Rattle.walk_theory.specs.Walks.{NumbersLess}
+use Rattle.weight_tails.specs.steps.Levels.{AreLevels}
 use Rattle.interior_point_theory.specs.Beginnings.{IsBeginning, MayFollow}
 use Rattle.interior_point_theory.specs.Interior.{IsInteriorPointSystem, system_of}
 
@@ -38,3 +39,7 @@ pub record IsFirst (n place least rest first : ℕ) : Type 0 where
 -- no weight above the most may follow a beginning of so many weights that leaves the rest
 abbrev pub IsMost : ℕ → ℕ → ℕ → ℕ → ℕ → Type 0
 IsMost n degree place rest most = (b : List ℕ) (v k : ℕ) → length b ≡ place → place + k ≡ n → total b + rest ≡ degree → MayFollow degree b v k → v ≤ most
+
+-- the levels are those of the first weights, up to so many, but not of all
+abbrev pub ServeTo : ℕ → List ℕ → List ℕ → Type 0
+ServeTo place weights levels = (k : ℕ) → k ≤ place → k < length weights → AreLevels (take k weights) levels

@@ -7,6 +7,7 @@ use Rattle.weight_enum.specs.Taken.{AreSearched}
 use Rattle.weight_enum.specs.steps.Listing.{IsCompleted, AddsSystems, IsReady}
 use Rattle.weight_enum.proofs.Listing.{IsCompletedBelow, adds_nothing, adds_next, adds_same, none_below_first}
 use Rattle.weight_enum.proofs.Listing.{completed_from_below, below_from_completed, below_wider, front_of, next_ready}
+use Rattle.weight_enum.proofs.LevelBeginnings.{alike_same, alike_trans, alike_weaker, serves_alike, serves_changed}
 use Rattle.weight_enum.proofs.degrees.+add_systems.Goals as goal
 
 pub loop-weight-init : goal.loop-weight-init
@@ -17,9 +18,25 @@ loop-weight-init t c =
     record {
       columns = refl;
       kept = refl;
+      numbers = refl;
+      alike = alike_same c.args.place c.args.levels.now;
       systems = adds_nothing (IsCompletedBelow c.args.degree n b first) c.args.degree (weighted_all c.args.found.now.systems.items)
           (λ x k. none_below_first c.args.degree n c.args.place c.args.least c.args.rest first b x c.requires.ready c.first_weight-first.ensures k);
     }
+
+pub add_if_system-requires-clause-levels : goal.add_if_system-requires-clause-levels
+add_if_system-requires-clause-levels t c =
+    let some = c.requires.searched.some in
+    c.requires.serve (length c.args.weights.now - 1) (omega arith) (omega (arith, some))
+
+pub carry-requires-clause-serve : goal.carry-requires-clause-serve
+carry-requires-clause-serve t c =
+    let place = c.args.place in
+    let before = c.loop-weight.weights in
+    let v = c.loop-weight.weight in
+    serves_changed place c.args.weights.now (slice_set before place v) c.loop-weight.levels (length-set before place v ∙ c.loop-weight.invariant.columns)
+    (take-set before place v ∙ c.loop-weight.invariant.kept)
+    (serves_alike place c.args.weights.now c.args.levels.now c.loop-weight.levels c.loop-weight.invariant.numbers c.loop-weight.invariant.alike c.requires.serve)
 
 pub add_systems-requires : goal.add_systems-requires
 add_systems-requires t c =
@@ -44,7 +61,8 @@ add_systems-requires t c =
     let searched : AreSearched degree (length changed) = subst (AreSearched degree) (sym long) c.requires.searched in
     let ready' = subst (λ (xs : List ℕ). IsReady degree n xs (place + 1) v (c.args.rest - v)) (sym prefix) ready in
     let ready'' = subst (λ (m : ℕ). IsReady degree m (take (place + 1) changed) (place + 1) v (c.args.rest - v)) (sym long) ready' in
-    (omega arith, (searched, ready''))
+    let numbers : length c.carry.new.levels ≡ degree + 1 = c.carry.ensures.columns ∙ (c.loop-weight.invariant.numbers ∙ c.requires.numbers) in
+    (omega arith, (searched, (ready'', (numbers, c.carry.ensures.serve))))
 
 pub loop-weight-preserved : goal.loop-weight-preserved
 loop-weight-preserved t c =
@@ -67,6 +85,10 @@ loop-weight-preserved t c =
     record {
       columns = c.in_ok-add_systems.ensures.columns ∙ long;
       kept = front_of c.add_systems.new.weights changed place c.in_ok-add_systems.ensures.kept ∙ (take-set before place v ∙ kept);
+      numbers = c.in_ok-add_systems.ensures.numbers ∙ (c.carry.ensures.columns ∙ c.loop-weight.invariant.numbers);
+      alike = alike_trans place c.args.levels.now c.loop-weight.levels c.add_systems.new.levels c.loop-weight.invariant.numbers
+          c.loop-weight.invariant.alike (alike_trans place c.loop-weight.levels c.carry.new.levels c.add_systems.new.levels c.carry.ensures.columns
+          c.carry.ensures.alike (alike_weaker place c.carry.new.levels c.add_systems.new.levels c.in_ok-add_systems.ensures.alike));
       systems = adds_next degree n v b (weighted_all c.args.found.now.systems.items) middle new c.loop-weight.invariant.systems added';
     }
 

@@ -1,63 +1,9 @@
-use Rattle.std.proofs.Common.{◌≡◌, ℕ, ◌+◌, ◌-◌, List, ℤ, length, sym, subst, arith}
+use Rattle.std.proofs.Common.{◌-◌, Option, length, subst, arith, Bool}
 use Rattle.std.proofs.lemmas.Bool.{false≢true}
-use Rattle.lattice_theory.specs.Facet.{IsFlat, AreFacets}
-use Rattle.hull.specs.Faults.{IsStartRefusal}
-use Rattle.interior_point_theory.specs.Around.{HasTails}
-use Rattle.lattice_core.specs.Stops.{Stops}
-use Rattle.lattice_core.specs.declared.faults.Fault.{Fault}
-use Rattle.lattice_core.specs.Dimensions.{dimension_of}
-use Rattle.lattice_core.proofs.Dimension.{dimension_is, own_dimension}
-use Rattle.interior_point_theory.specs.Interior.{system_of}
-use Rattle.weight_enum.specs.Taken.{AreSearched}
-use Rattle.weight_enum.proofs.Sizes.{tails_sized, tails_dimension}
-use Rattle.weight_enum.proofs.InteriorPoints.{interior_by_facets, refused_none, some_tail}
-use Rattle.weight_enum.proofs.Refuting.{tails_summed, refuted}
+use Rattle.weight_enum.specs.steps.Refuters.{IsVerdict}
+use Rattle.weight_enum.proofs.Sizes.{tails_dimension}
+use Rattle.weight_enum.proofs.Refuting.{tails_summed, refuted, told}
 use Rattle.weight_enum.proofs.interior.has_interior.Goals as goal
-
--- the dimension of the tails
-dimension : (n degree : ℕ) (weights : List ℕ) (tails : List (List ℤ)) → HasTails n (system_of degree weights) tails → dimension_of tails ≡ n
-dimension n degree weights tails has = dimension_is n tails (some_tail n degree weights tails has) (tails_dimension degree n weights tails has)
-
-pub all_facets-requires : goal.all_facets-requires
-all_facets-requires c =
-    let has = c.in_ok-tails_of.ensures in
-    rw c.deref-2.ensures.value (record {
-      points = record {
-        some = some_tail (length c.args.weights.now - 1) c.args.degree c.args.weights.now c.tails_of.new.tails.items has;
-        one_dimension = own_dimension (length c.args.weights.now - 1) c.tails_of.new.tails.items
-            (tails_dimension c.args.degree (length c.args.weights.now - 1) c.args.weights.now c.tails_of.new.tails.items has);
-      };
-    })
-
-pub returns-in_ok-keep-in-Ok : goal.returns-in_ok-keep-in-Ok
-returns-in_ok-keep-in-Ok c =
-    let n = length c.args.weights.now - 1 in
-    let system = system_of c.args.degree c.args.weights.now in
-    let has = c.in_ok-tails_of.ensures in
-    let tails = c.tails_of.new.tails.items in
-    let same = dimension n c.args.degree c.args.weights.now tails has in
-    let facets = subst (λ (m : ℕ). AreFacets m tails c.in-Ok.facets.items) same (rw c.deref-2.ensures.value at c.in-Ok.ensures.facets) in
-    let solid = rw c.deref-2.ensures.value at c.in-Ok.ensures.solid in
-    let both = interior_by_facets n system tails c.in-Ok.facets.items has
-    (λ flat. solid.solid (subst (λ (m : ℕ). IsFlat m tails) (sym same) flat)) facets in
-    (λ e. both.0 (rw c.deref-in-Ok-2.ensures.value at (c.are_positive.ensures.0 e)), λ h. c.are_positive.ensures.1 (rw c.deref-in-Ok-2.ensures.value (both.1 h)))
-
-pub returns-in-Err-Refused : goal.returns-in-Err-Refused
-returns-in-Err-Refused c =
-    let n = length c.args.weights.now - 1 in
-    let has = c.in_ok-tails_of.ensures in
-    let searched = c.requires.taken.searched in
-    let some = searched.some in
-    let next : length c.args.weights.now ≡ n + 1 = omega (arith, some) in
-    let sized = tails_sized c.args.degree n c.args.weights.now c.tails_of.new.tails.items has (omega (arith, some))
-    (subst (AreSearched c.args.degree) next searched) in
-    let tails = c.tails_of.new.tails.items in
-    let same = dimension n c.args.degree c.args.weights.now tails has in
-    let stops = subst (λ (m : ℕ). Stops (IsStartRefusal m tails) c.in-Err-Refused.field-0) same
-    (rw c.deref-2.ensures.value at c.in-Err-Refused.ensures.refused) in
-    let refused : IsStartRefusal n tails c.in-Err-Refused.field-0-0 =
-    subst (λ (fault : Fault). Stops (IsStartRefusal n tails) fault) c.in-Err-Refused.field-0-is stops in
-    (λ e. absurd (false≢true e), λ h. absurd (refused_none n (system_of c.args.degree c.args.weights.now) c.tails_of.new.tails.items _ has sized refused h))
 
 pub refute-requires-clause-dimension : goal.refute-requires-clause-dimension
 refute-requires-clause-dimension c = rw c.deref.ensures.value (tails_dimension c.args.degree (length c.args.weights.now - 1) c.args.weights.now
@@ -77,3 +23,22 @@ returns-then-refute c = (
   λ h. absurd (refuted c.args.degree (length c.args.weights.now - 1) c.args.weights.now c.tails_of.new.tails.items c.in_ok-tails_of.ensures
       (rw c.deref.ensures.value at (c.refute.ensures c.if-refute.true)) h),
 )
+
+pub verdict_of-requires-clause-dimension : goal.verdict_of-requires-clause-dimension
+verdict_of-requires-clause-dimension c = rw c.deref-2.ensures.value (tails_dimension c.args.degree (length c.args.weights.now - 1) c.args.weights.now
+    c.tails_of.new.tails.items c.in_ok-tails_of.ensures)
+
+pub verdict_of-requires-clause-small : goal.verdict_of-requires-clause-small
+verdict_of-requires-clause-small c =
+    let searched = c.requires.taken.searched in
+    let few = searched.few in
+    let limit = searched.limit in
+    rw c.deref-2.ensures.value (tails_summed c.args.degree (length c.args.weights.now - 1) c.args.weights.now c.tails_of.new.tails.items
+    c.in_ok-tails_of.ensures (omega (arith, few, limit)))
+
+pub returns-in-Some : goal.returns-in-Some
+returns-in-Some c =
+    let n = length c.args.weights.now - 1 in
+    let verdict = rw c.deref-2.ensures.value at c.in_ok-answer.ensures in
+    told c.args.degree n c.args.weights.now c.tails_of.new.tails.items c.in_ok-tails_of.ensures c.in-Some.answer
+    (subst (λ (v : Option Bool). IsVerdict n c.tails_of.new.tails.items v) c.in-Some.is verdict)

@@ -1,68 +1,135 @@
-use Rattle.std.proofs.Common.{◌≡◌, ◌∙◌, ℕ, ◌+◌, ◌-◌, ◌*◌, ◌/◌, ◌<◌, List, [], ◌∷◌, ◌++◌, ℤ, length, take, get_or, sym, ap, ap₂, refl, subst, rules, arith, SFits, w64, to_z, of_z, Vec, Global}
-use Rattle.std.proofs.lemmas.Int.{to_z-of_z}
+use Rattle.std.proofs.Common.{◌≡◌, ◌∙◌, ℕ, ◌+◌, ◌-◌, ◌*◌, ◌/◌, ◌<◌, ◌≤◌, List, ◌∷◌, length, drop, get_or, All, sym, ap, subst, arith, Vec, Global}
 use Rattle.std.specs.Prelude.{slice_set}
+use Rattle.std.proofs.Math.ListN.{length-set}
 use Rattle.std.proofs.lemmas.Bool.{false≢true}
-use Rattle.std.proofs.lemmas.List.{take_more_set, take-set}
-use Rattle.lattice_core.specs.declared.point.Point.{Point}
+use Rattle.std.proofs.lemmas.Grind.{drop_more_same}
+use Rattle.std.proofs.lemmas.List.{drop-set, drop-set-lt}
 use Rattle.std.proofs.lemmas.Result.{on_ok_weaker}
-use Rattle.weight_tails.specs.steps.Listing.{AddsEach, lowered}
-use Rattle.weight_tails.proofs.Listing.{IsListedBelow, added_at_end, added_all, added_more, added_none, front_of, affordable}
+use Rattle.lattice_core.specs.declared.limits.TheConstants.{MOST_DEGREE}
+use Rattle.lattice_core.specs.declared.point.Point.{Point}
+use Rattle.weight_tails.specs.steps.Listing.{IsListed, AddsEach}
+use Rattle.weight_tails.proofs.LevelSteps.{levels_tell}
+use Rattle.weight_tails.proofs.Listing.{IsListedBelow, added_first, added_all, added_more, added_none, affordable, small_exponent, small_set}
 use Rattle.weight_tails.proofs.tails.+add_tails.Goals as goal
-use Rattle.weight_tails.proofs.tails.+add_tails.Goals.{then-is_taken+in_ok-add_tails, else-is_taken}
+use Rattle.weight_tails.proofs.tails.+add_tails.Goals.{then-is_enough+in_ok-add_tails, else-is_enough}
 
-pub returns-then-left-eq0-clause-tails : goal.returns-then-left-eq0-clause-tails
-returns-then-left-eq0-clause-tails t c =
+pub returns-then-place-eq1-clause-tails : goal.returns-then-place-eq1-clause-tails
+returns-then-place-eq1-clause-tails t c =
+    let some = c.requires.some in
     on_ok_weaker c.add_tail.result
-    (λ pushed. added_at_end c.args.weights.now c.args.entries.now c.args.place c.args.left _ _ (omega arith) c.requires.columns (omega arith) pushed)
+    (λ pushed. added_first c.args.weights.now c.args.entries.now c.args.place c.args.left _ _ (omega arith) (omega (arith, some)) c.requires.columns
+    c.requires.taken pushed)
     c.add_tail.ensures
+
+pub add_tails-requires : goal.add_tails-requires
+add_tails-requires t c =
+    let weights = c.args.weights.now in
+    let p = c.args.place - 1 in
+    let w = get_or weights p 0 in
+    let v = c.loop-value.value in
+    let rest = c.args.left - v * w in
+    let some = c.requires.some in
+    let least = c.requires.least in
+    let most = c.requires.most in
+    let left = c.requires.left in
+    let limit = c.requires.limit in
+    let columns = c.loop-value.invariant.columns in
+    let own = c.requires.columns in
+    let positive = c.requires.positive p 0 (omega (arith, least, most)) in
+    let inside : rest < length c.args.levels.now = omega (arith, left) in
+    let small = small_exponent v w c.args.left c.loop-value-test.true positive in
+    let taken = (levels_tell weights c.args.levels.now (omega (arith, some)) c.requires.levels p rest (omega (arith, least, most)) inside).0
+    (c.is_enough.ensures.0 c.if-is_enough.true) in (
+      omega arith,
+      (
+        some,
+        (
+          c.requires.few,
+          (
+            c.requires.positive,
+            (
+              c.requires.levels,
+              (
+                inside,
+                (
+                  omega (arith, limit),
+                  (
+                    length-set c.loop-value.entries p v ∙ (columns ∙ own),
+                    (
+                      small_set c.loop-value.entries p v MOST_DEGREE c.loop-value.invariant.small (omega (arith, small, limit)),
+                      (omega arith, (omega (arith, most), taken)),
+                    ),
+                  ),
+                ),
+              ),
+            ),
+          ),
+        ),
+      ),
+    )
 
 pub loop-value-preserved : goal.loop-value-preserved
 loop-value-preserved t c =
     let weights = c.args.weights.now in
     let entries = c.args.entries.now in
-    let place = c.args.place in
+    let p = c.args.place - 1 in
+    let w = get_or weights p 0 in
     let left = c.args.left in
     let v = c.loop-value.value in
+    let before = c.loop-value.entries in
     let kept = c.loop-value.invariant.kept in
     let columns = c.loop-value.invariant.columns in
+    let own = c.requires.columns in
     let old = c.args.tails.now.items in
     let middle = c.loop-value.tails.items in
-    let within : place < length weights = omega arith in
-    let positive = c.requires.positive place 0 within in
-    let spends = affordable v (get_or weights place 0) left c.loop-value-test.true positive in
-    elim c.if-is_taken.branch [
-      | then-is_taken+in_ok-add_tails w ↦
-          let fits : SFits w64 w.lowered.result = search rules in
-          let entry : ℤ = to_z w64 (of_z w64 w.lowered.result) in
-          let same : to_z w64 (of_z w64 w.lowered.result) ≡ w.lowered.result = simp to_z-of_z refl in
-          let changed = slice_set c.loop-value.entries place entry in
-          let prefix : take (place + 1) changed ≡ take place entries ++ lowered v ∷ [] =
-          take_more_set c.loop-value.entries place entry (omega arith)
-          ∙ ap₂ (λ (xs : List ℤ) (z : ℤ). xs ++ z ∷ []) kept (same ∙ w.lowered.ensures) in
+    let least = c.requires.least in
+    let most = c.requires.most in
+    let room = c.requires.left in
+    let some = c.requires.some in
+    let within : p < length weights = omega (arith, least, most) in
+    let next : c.args.place ≡ p + 1 = omega (arith, least) in
+    let positive = c.requires.positive p 0 within in
+    let spends = affordable v w left c.loop-value-test.true positive in
+    let kept' : drop (p + 1) before ≡ drop (p + 1) entries = subst (λ (k : ℕ). drop k before ≡ drop k entries) next kept in
+    elim c.if-is_enough.branch [
+      | then-is_enough+in_ok-add_tails u ↦
+          let changed = slice_set before p v in
+          let prefix : drop p changed ≡ v ∷ drop (p + 1) entries =
+          drop-set before p v (omega (arith, within, columns, own)) ∙ ap (λ (xs : List ℕ). v ∷ xs) kept' in
+          let stays = drop_more_same u.add_tails.new.entries changed p u.in_ok-add_tails.ensures.kept in
+          let behind : drop (p + 1) changed ≡ drop (p + 1) entries = drop-set-lt (p + 1) before p v (omega arith) ∙ kept' in
           record {
-            columns = c.if-is_taken.auto.entries ∙ columns;
-            kept = front_of c.if-is_taken.entries changed place (ap (λ (xs : List ℤ). take (place + 1) xs) w.entries-is ∙ w.in_ok-add_tails.ensures.kept)
-                ∙ (take-set c.loop-value.entries place entry ∙ kept);
-            tails = subst (λ (tails : Vec Point Global). AddsEach (IsListedBelow weights entries place left (v + 1)) old tails.items) (sym w.tails-is)
-                (added_more weights entries changed place left (left - v * get_or weights place 0) v old middle w.add_tails.new.tails.items within
-                c.loop-value.invariant.tails spends prefix w.in_ok-add_tails.ensures.tails);
+            columns = c.if-is_enough.auto.entries ∙ columns;
+            small = subst (λ (xs : List ℕ). All (λ e. e ≤ MOST_DEGREE) xs) (sym u.entries-is) u.in_ok-add_tails.ensures.small;
+            kept = ap (λ (xs : List ℕ). drop c.args.place xs) u.entries-is
+                ∙ subst (λ (k : ℕ). drop k u.add_tails.new.entries ≡ drop k entries) (sym next) (stays ∙ behind);
+            tails = subst (λ (tails : Vec Point Global). AddsEach (IsListedBelow weights entries p left (v + 1)) old tails.items) (sym u.tails-is)
+                (added_more weights entries changed p left (left - v * w) v old middle u.add_tails.new.tails.items within
+                c.loop-value.invariant.tails spends prefix u.in_ok-add_tails.ensures.tails);
           }
-      | else-is_taken w ↦
+      | else-is_enough u ↦
           record {
-            columns = c.if-is_taken.auto.entries ∙ columns;
-            kept = ap (λ (xs : List ℤ). take place xs) w.entries-is ∙ kept;
-            tails = subst (λ (tails : Vec Point Global). AddsEach (IsListedBelow weights entries place left (v + 1)) old tails.items) (sym w.tails-is)
-                (added_none weights entries entries place left (left - v * get_or weights place 0) v old middle middle within
-                c.loop-value.invariant.tails spends (λ taken. false≢true (sym w.if-is_taken.false ∙ c.is_taken.ensures.1 taken)));
+            columns = c.if-is_enough.auto.entries ∙ columns;
+            small = subst (λ (xs : List ℕ). All (λ e. e ≤ MOST_DEGREE) xs) (sym u.entries-is) c.loop-value.invariant.small;
+            kept = ap (λ (xs : List ℕ). drop c.args.place xs) u.entries-is ∙ kept;
+            tails = subst (λ (tails : Vec Point Global). AddsEach (IsListedBelow weights entries p left (v + 1)) old tails.items) (sym u.tails-is)
+                (added_none weights entries entries p left (left - v * w) v old middle middle within
+                c.loop-value.invariant.tails spends (λ taken. false≢true (sym u.if-is_enough.false ∙ c.is_enough.ensures.1
+                ((levels_tell weights c.args.levels.now (omega (arith, some)) c.requires.levels p (left - v * w) within (omega (arith, room))).1 taken))));
           }
     ]
 
 pub returns-clause-tails : goal.returns-clause-tails
 returns-clause-tails t c =
     let weights = c.args.weights.now in
-    let within : c.args.place < length weights = omega arith in
-    let positive = c.requires.positive c.args.place 0 within in
-    let end : c.loop-value.value ≡ c.args.left / get_or weights c.args.place 0 + 1 = omega arith in
-    added_all weights c.args.entries.now c.args.place c.args.left c.args.tails.now.items c.loop-value.tails.items within positive
-    (subst (λ (b : ℕ). AddsEach (IsListedBelow weights c.args.entries.now c.args.place c.args.left b) c.args.tails.now.items
-    c.loop-value.tails.items) end c.loop-value.invariant.tails)
+    let p = c.args.place - 1 in
+    let least = c.requires.least in
+    let most = c.requires.most in
+    let within : p < length weights = omega (arith, least, most) in
+    let next : p + 1 ≡ c.args.place = omega (arith, least) in
+    let positive = c.requires.positive p 0 within in
+    let end : c.loop-value.value ≡ c.args.left / get_or weights p 0 + 1 = omega arith in
+    subst (λ (k : ℕ). AddsEach (IsListed weights c.args.entries.now k c.args.left) c.args.tails.now.items c.loop-value.tails.items) next
+    (added_all weights c.args.entries.now p c.args.left c.args.tails.now.items c.loop-value.tails.items within positive
+    (subst (λ (b : ℕ). AddsEach (IsListedBelow weights c.args.entries.now p c.args.left b) c.args.tails.now.items
+    c.loop-value.tails.items) end c.loop-value.invariant.tails))

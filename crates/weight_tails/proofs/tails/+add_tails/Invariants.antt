@@ -1,14 +1,16 @@
-use Rattle.std.proofs.Common.{◌≡◌, ◌-◌, length, take}
+use Rattle.std.proofs.Common.{◌≡◌, ◌≤◌, length, drop, All}
+use Rattle.lattice_core.specs.declared.limits.TheConstants.{MOST_DEGREE}
 use Rattle.weight_tails.specs.steps.Listing.{AddsEach}
 use Rattle.weight_tails.proofs.Listing.{IsListedBelow}
 use Rattle.weight_tails.proofs.tails.+add_tails.Given as goal
 
 abbrev pub decreases-add_tails : goal.decreases-add_tails
-decreases-add_tails l = length l.weights.now - l.place
+decreases-add_tails l = l.place
 
 abbrev pub invariant-loop-value : goal.invariant-loop-value
 invariant-loop-value l = record {
   columns : length l.entries ≡ length l.initial.entries;
-  kept : take l.place l.entries ≡ take l.place l.initial.entries;
-  tails : AddsEach (IsListedBelow l.weights l.initial.entries l.place l.left l.value) l.initial.tails.items l.tails.items;
+  small : All (λ e. e ≤ MOST_DEGREE) l.entries;
+  kept : drop l.place l.entries ≡ drop l.place l.initial.entries;
+  tails : AddsEach (IsListedBelow l.weights l.initial.entries l.last l.left l.value) l.initial.tails.items l.tails.items;
 }
