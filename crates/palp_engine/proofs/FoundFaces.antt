@@ -15,8 +15,7 @@ use Rattle.face_poset.specs.Builds.{id_at, LacksFirst}
 use Rattle.face_poset.specs.Counts.{IsFaceCount, AreFaceCounts}
 use Rattle.face_poset.proofs.FaceCounts.{table_counts_faces_lem, few_faces_lem}
 use Rattle.palp_print.specs.Blocks.{ArePaired}
-use Rattle.palp_engine.specs.Items.{HaveFewFaces}
-use Rattle.palp_engine.specs.FaceSteps.{HasRowRoom, CanHaveFaces, IsHeldOf, with_rank, of_ranks}
+use Rattle.palp_engine.specs.FaceSteps.{HasRowRoom, CanHaveFaces, IsHeldOf, HaveFewFaces, with_rank, of_ranks}
 
 -- the values of facets at vertices can be worked out
 pub have_values : (facets : List Affine) (vertices : List (List ℤ)) → ArePaired facets vertices → HaveValues vertices facets

@@ -1,5 +1,5 @@
 -- Giving the one piece of an item.
-use Rattle.std.proofs.Common.{ℕ, ◌≤◌, List, [], ◌∷◌, Err, ◌≡◌, sym, subst}
+use Rattle.std.proofs.Common.{ℕ, ◌≤◌, Bool, true, false, List, [], ◌∷◌, Err, ◌≡◌, sym, subst}
 use Rattle.lattice_core.specs.Stops.{Stops}
 use Rattle.lattice_core.specs.declared.faults.Refusal.{Refusal}
 use Rattle.lattice_core.specs.declared.faults.Fault.{Fault}
@@ -12,18 +12,29 @@ use Rattle.palp_words.specs.declared.job.Job.{Job}
 use Rattle.palp_words.specs.declared.job.Job.TheVariants.{Poly}
 use Rattle.palp_words.specs.declared.job.PolyFlags.{PolyFlags}
 use Rattle.palp_input.specs.Grammar.{Listed}
-use Rattle.palp_engine.specs.Items.{IsPiece, IsItemRefused}
+use Rattle.palp_engine.specs.Items.{IsPiece, IsUnwanted, IsItemRefused}
 use Rattle.palp_engine.specs.Entries.{Entry, TextItem}
-use Rattle.palp_engine.specs.Commands.{IsBuilt, BlocksSay, printed, whole, refused, Says}
+use Rattle.palp_engine.specs.Commands.{IsBuilt, BlocksSay, printed, whole, unwanted, refused, Says}
 use Rattle.palp_engine.specs.Sessions.{EntryMeans}
 use Rattle.palp_engine.specs.RunSteps.{IsItemStop}
+use Rattle.palp_engine.specs.PieceSteps.{IsWritten}
 use Rattle.palp_engine.specs.declared.session.ItemFault.{ItemFault}
 
 -- a job that is built says what its letters say
 built_says : (job : Job) (flags : PolyFlags) (item : Listed) (k : ℕ) (step : Step Refusal) → job ≡ Poly flags → IsBuilt job
     → BlocksSay flags item k step → Says job (TextItem item) k step
 built_says job flags item k step is built a =
-    subst (λ (j : Job). Says j (TextItem item) k step) (sym is) (subst IsBuilt is built, a)
+    subst (λ (j : Job). Says j (TextItem item) k step) (sym is) a
+
+-- what was written, by the answer
+module _ (flags : PolyFlags) (item : Listed) (page : List ℕ) where
+  pub written : (wanted : Bool) → wanted ≡ true → IsWritten flags item page wanted → IsPiece flags item page
+  written true e w = w
+  written false e w = absurd (cc)
+
+  pub unwritten : (wanted : Bool) → wanted ≡ false → IsWritten flags item page wanted → IsUnwanted flags item
+  unwritten true e w = absurd (cc)
+  unwritten false e w = w
 
 module _ (job : Job) (flags : PolyFlags) (is : job ≡ Poly flags) (built : IsBuilt job) (item : Listed) (out : SinkState) where
   abbrev entry : Entry
@@ -42,6 +53,11 @@ module _ (job : Job) (flags : PolyFlags) (is : job ≡ Poly flags) (built : IsBu
   stopped_item (faults.Refused cause) told s e =
       subst (λ (t : ItemFault). EntryMeans (Err t) job entry out out) (sym e) (refused_item cause s)
   stopped_item faults.NoMemory told s e = subst (λ (t : ItemFault). EntryMeans (Err t) job entry out out) (sym e) no_piece
+
+  -- an item without a piece
+  pub unwanted_item : IsUnwanted flags item → GivesItem (Says job) entry Whole out out
+  unwanted_item u = item_closed (Says job) out out entry 0 (item_nothing (Says job) out entry) Whole
+      (built_says job flags item 0 _ is built (unwanted u))
 
   module _ (piece : List ℕ) (is_piece : IsPiece flags item piece) (last : SinkState) (later : out.faults ≤ last.faults) where
     pub whole_item : Gains out last piece → GivesItem (Says job) entry Whole out last

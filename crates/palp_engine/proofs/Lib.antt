@@ -1,10 +1,12 @@
 pub mod CountedPoints
 pub mod SingleAnswers
 pub mod PrintedPolytopes
-pub mod Pieces
+pub mod ItemPieces
 pub mod FoundFaces
 pub mod HullStops
+pub mod SingleShown
 pub mod SingleItems
+pub mod WayBack
 pub mod SingleReports
 pub mod SingleEnded
 pub mod TextReadings

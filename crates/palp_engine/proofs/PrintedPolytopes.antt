@@ -5,7 +5,8 @@ use Rattle.std.proofs.Common.{◌≡◌, ℕ, ◌<◌, ◌≤◌, List, [], ◌�
 use Rattle.std.proofs.lemmas.List.Elements.{All-contains, All-weaker, All-contains_itself}
 use Rattle.lattice_theory.specs.Affine.{Affine, value}
 use Rattle.lattice_theory.specs.Size.{size, absolute_sum}
-use Rattle.lattice_theory.specs.Points.{IsLatticePoint}
+use Rattle.lattice_theory.specs.Points.{IsLatticePoint, AreLatticePoints}
+use Rattle.facet_theory.specs.Solid.{AreSolid}
 use Rattle.facet_theory.proofs.Hull.{some_positive_constant_lem}
 use Rattle.normal_bounds.proofs.Sizes.{point_absolute_sum_lem}
 use Rattle.lattice_core.specs.Dimensions.{dimension_of}
@@ -14,10 +15,13 @@ use Rattle.lattice_core.proofs.Dimension.{own_dimension}
 use Rattle.lattice_core.proofs.ValueSizes.{wide_serves}
 use Rattle.hull.proofs.FacetBounds.{facets_bounded_lem}
 use Rattle.palp_print.specs.Blocks.{function_dimension, AreFunctions, AreInReach, ArePaired}
-use Rattle.palp_engine.specs.RunSteps.{ArePassed, IsLattice, ArePrinted, IsPolytope}
+use Rattle.item_points.specs.Points.{AreItemPoints}
+use Rattle.dual_pair.specs.Polytopes.{PolytopeState, IsPolytopeOf}
+use Rattle.dual_pair.proofs.VertexLists.{solid_of}
+use Rattle.palp_engine.specs.RunSteps.{ArePassed, IsLattice, IsKept}
 use Rattle.palp_engine.specs.declared.polytopes.Lattice.{Lattice}
 use Rattle.palp_engine.specs.declared.polytopes.Polytope.{Polytope}
-use Rattle.palp_engine.proofs.CountedPoints.{scanned_vertices, passed}
+use Rattle.palp_engine.proofs.CountedPoints.{scanned_vertices}
 use Rattle.palp_engine.proofs.SingleAnswers.{first_point}
 
 some_member : {X : Type 0} (x : X) (xs : List X) → Contains xs x → 0 < length xs
@@ -51,7 +55,7 @@ module _ (n : ℕ) (points : List (List ℤ)) (facets : List Affine) (vertices :
             (λ f c. ((p.are_facets.members f).0 c).dimension) facets (All-contains_itself facets));
       }
 
-  paired : ArePaired facets vertices
+  pub paired : ArePaired facets vertices
   paired = record {
     are_functions = functions;
     are_points = (scanned_vertices n points facets vertices p).sized.are_points;
@@ -60,47 +64,75 @@ module _ (n : ℕ) (points : List (List ℤ)) (facets : List Affine) (vertices :
         facets (All-contains_itself facets);
   }
 
-  -- the lattice points are of one dimension, and there is one
-  lattice_points : (listed : Bool) (lattice : Lattice) (l : IsLattice n points listed lattice) → 0 < length points → ArePoints l.list
-  lattice_points listed lattice l some =
-      let point = first_point points some in
-      let inside : IsLatticePoint n points point.0 = record {
-        dimension = All-contains (λ q. length q ≡ n) points point.0 p.solid.dimension point.1;
-        inside = λ f d h. All-contains (λ q. pos 0 ≤ℤ value f q) points point.0 h point.1;
-      } in
-      record {
-        some = some_member point.0 l.list ((l.are_lattice_points.members point.0).1 inside);
-        one_dimension = own_dimension n l.list (All-weaker (Contains l.list) (λ x. length x ≡ n)
-            (λ x c. ((l.are_lattice_points.members x).0 c).dimension) l.list (All-contains_itself l.list));
-      }
+-- the lattice points are of one dimension, and there is one
+pub lattice_are_points : (n : ℕ) (points lattice : List (List ℤ)) → AreSolid n points → 0 < length points
+    → AreLatticePoints n points lattice → ArePoints lattice
+lattice_are_points n points lattice solid some l =
+    let point = first_point points some in
+    let inside : IsLatticePoint n points point.0 = record {
+      dimension = All-contains (λ q. length q ≡ n) points point.0 solid.dimension point.1;
+      inside = λ f d h. All-contains (λ q. pos 0 ≤ℤ value f q) points point.0 h point.1;
+    } in
+    record {
+      some = some_member point.0 lattice ((l.members point.0).1 inside);
+      one_dimension = own_dimension n lattice (All-weaker (Contains lattice) (λ x. length x ≡ n)
+          (λ x c. ((l.members x).0 c).dimension) lattice (All-contains_itself lattice));
+    }
 
-  printed_polytope : (listed : Bool) (lattice : Lattice) (l : IsLattice n points listed lattice) → 0 < length points
-      → (polytope : Polytope) → polytope.lattice.items ≡ lattice.points.items → polytope.vertices.items ≡ vertices
-      → polytope.facets.items ≡ facets → ArePrinted listed polytope
-  printed_polytope listed lattice l some polytope ls vs fs = record {
-    lattice = λ t. subst ArePoints (sym (ls ∙ l.listed_is t)) (lattice_points listed lattice l some);
-    vertices = subst ArePoints (sym vs) paired.are_points;
-    facets = subst AreFunctions (sym fs) functions;
-    paired = subst (λ (xs : List (List ℤ)). ArePaired polytope.facets.items xs) (sym vs)
-        (subst (λ (xs : List Affine). ArePaired xs vertices) (sym fs) paired);
+module _ (points : List (List ℤ)) (p : PolytopeState) (h : IsPolytopeOf points p) where
+  -- the lists of a polytope, as steps on its points find them
+  polytope_passed : ArePassed (dimension_of points) points p.facets p.vertices
+  polytope_passed = record {
+    solid = solid_of points h.least h.solid;
+    sized = h.solid.sized.within;
+    are_facets = h.facets_are;
+    few_facets = h.few_facets;
+    are_vertices = h.vertices_are;
+    few_vertices = h.few_vertices;
   }
 
+  pub polytope_paired : ArePaired p.facets p.vertices
+  polytope_paired = paired (dimension_of points) points p.facets p.vertices polytope_passed h.least h.most
+
+  pub polytope_points : ArePoints p.points
+  polytope_points = lattice_are_points (dimension_of points) points p.points (solid_of points h.least h.solid)
+      h.solid.sized.are_points.some h.points_are
+
 -- what is kept of points that aren't refused
-pub kept_polytope : (points : List (List ℤ)) (facets : List Affine) (vertices : List (List ℤ))
-    (p : ArePassed (dimension_of points) points facets vertices) → 1 ≤ dimension_of points → dimension_of points ≤ 6 → 0 < length points
-    → (listed : Bool) (lattice : Lattice) (l : IsLattice (dimension_of points) points listed lattice) (polytope : Polytope)
-    → polytope.count ≡ lattice.count → polytope.lattice.items ≡ lattice.points.items → polytope.vertices.items ≡ vertices
-    → polytope.facets.items ≡ facets → IsPolytope points listed polytope
-kept_polytope points facets vertices p least most some listed lattice l polytope cs ls vs fs = record {
-  few = record {
-    polytope = passed (dimension_of points) points facets vertices p;
-    lattice = l.list;
-    are_lattice_points = l.are_lattice_points;
-    few = l.few;
-  };
-  count_is = cs ∙ l.count_is;
-  lattice_is = λ t. ls ∙ l.listed_is t;
-  vertices_are = vs;
-  facets_are = fs;
-  printed = printed_polytope (dimension_of points) points facets vertices p least most listed lattice l some polytope ls vs fs;
-}
+module _ (points : List (List ℤ)) (facets : List Affine) (vertices : List (List ℤ)) (p : ArePassed (dimension_of points) points facets vertices)
+    (h : AreItemPoints points) (listed : Bool) (lattice : Lattice) (l : IsLattice (dimension_of points) points listed lattice) where
+  abbrev lists : PolytopeState
+  lists = record { vertices = vertices; facets = facets; points = l.list }
+
+  are_lists : IsPolytopeOf points lists
+  are_lists = record {
+    least = h.least;
+    most = h.most;
+    solid = record { sized = h.sized; solid = p.solid.solid };
+    vertices_are = p.are_vertices;
+    facets_are = p.are_facets;
+    points_are = l.are_lattice_points;
+    few_vertices = p.few_vertices;
+    few_facets = p.few_facets;
+    few_points = l.few;
+  }
+
+  pub kept_polytope : (kept : Polytope) → kept.count ≡ lattice.count → kept.lattice.items ≡ lattice.points.items
+      → kept.vertices.items ≡ vertices → kept.facets.items ≡ facets → IsKept points listed kept
+  kept_polytope kept cs ls vs fs =
+      let pairs = polytope_paired points lists are_lists in
+      record {
+        polytope = lists;
+        is_polytope = are_lists;
+        count_is = cs ∙ l.count_is;
+        lattice_is = λ t. ls ∙ l.listed_is t;
+        vertices_are = vs;
+        facets_are = fs;
+        printed = record {
+          lattice = λ t. subst ArePoints (sym (ls ∙ l.listed_is t)) (polytope_points points lists are_lists);
+          vertices = subst ArePoints (sym vs) pairs.are_points;
+          facets = subst AreFunctions (sym fs) pairs.are_functions;
+          paired = subst (λ (xs : List (List ℤ)). ArePaired kept.facets.items xs) (sym vs)
+              (subst (λ (xs : List Affine). ArePaired xs vertices) (sym fs) pairs);
+        };
+      }

@@ -1,39 +1,36 @@
--- An item has one piece or one refusal.
+-- An item has one piece, or none, or one refusal.
 use Rattle.std.specs.Prelude.{IsTrue}
-use Rattle.std.proofs.Common.{◌≡◌, ℕ, Bool, true, false, List, ◌++◌, length, ℤ, refl, sym, ap, ◌∙◌, subst, inl, inr, rules}
-use Rattle.lattice_theory.specs.Affine.{Affine}
+use Rattle.std.proofs.Common.{◌≡◌, ℕ, Bool, true, false, List, ◌++◌, ℤ, refl, sym, ap, ◌∙◌, subst, inl, inr, rules}
 use Rattle.lattice_core.specs.Dimensions.{dimension_of}
 use Rattle.lattice_core.specs.declared.faults.Refusal.{Refusal}
 use Rattle.lattice_core.specs.declared.faults.Refusal.TheVariants.{Limit}
 use Rattle.lattice_core.specs.declared.faults.LimitName.TheVariants.{Faces}
-use Rattle.face_theory.specs.Pairings.{valued}
 use Rattle.face_closing.specs.Tables.{HasMoreFaces}
 use Rattle.face_poset.specs.Counts.{AreFaceCounts}
 use Rattle.face_poset.proofs.FaceCounts.{face_counts_are_single_lem}
 use Rattle.palp_words.specs.declared.job.PolyFlags.{PolyFlags}
 use Rattle.palp_input.specs.Grammar.{Listed}
-use Rattle.item_points.specs.Points.{HasPoints}
-use Rattle.palp_print.specs.Lists.{body_line}
+use Rattle.item_points.specs.Points.{IsPointsRefusal}
+use Rattle.item_points.proofs.SingleItems.{one_list_of_points, one_points_refusal, points_or_refusal, points_are_item_points}
+use Rattle.dual_pair.specs.Polytopes.{PolytopeState, IsPolytopeOf}
+use Rattle.dual_pair.specs.Pairs.{IsReflexivePolytope, HasNoDual}
+use Rattle.dual_pair.specs.Faces.{on_facets}
+use Rattle.dual_pair.proofs.VertexLists.{polytopes_are_single_lem}
+use Rattle.batyrev.specs.declared.line.HodgeLine.{HodgeLine}
 use Rattle.palp_print.specs.Blocks.{columns, pairing, incidence}
 use Rattle.palp_print.specs.declared.titles.Title.TheVariants.{Vertices, Points}
-use Rattle.item_points.proofs.SingleItems.{one_list_of_points, one_points_refusal, points_or_refusal, points_are_item_points}
 use Rattle.palp_engine.specs.Reports.{HaveFewPoints, IsRefused}
-use Rattle.palp_engine.specs.Items.{IsHullRefusal, IsFacesRefusal, many_faces, IsPiece, item_echo, facet_block, asked, blocks}
-use Rattle.palp_engine.specs.Laws.{OnePiece, OneItemRefusal, PieceOrRefusal}
-use Rattle.palp_engine.proofs.SingleAnswers.{one_polytope, one_refusal, polytope_or_refusal}
+use Rattle.palp_engine.specs.Shown.{Shown, Alone, Paired, shown_polytope, IsShown, AskFaces, AreNumbersOf}
+use Rattle.palp_engine.specs.Items.{IsHullRefusal, HasPolytope, HasNoAskedDual, HasManyFaces, IsAskedRefusal, no_asked_dual, many_faces, IsItemRefused}
+use Rattle.palp_engine.specs.Items.{IsAccepted, item_echo, facet_block, asked, general_line, dual_columns, blocks}
+use Rattle.palp_engine.specs.Laws.{OnePiece, OneItemRefusal, PieceOrRefusal, PieceOrNone, NoneOrRefusal}
+use Rattle.palp_engine.proofs.SingleAnswers.{one_refusal, polytope_or_refusal}
+use Rattle.palp_engine.proofs.SingleShown.{one_line, one_no_dual, one_shown, shown_or_no_dual}
 
 -- what is said of points holds of the same ones
 refused_same : (points others : List (List ℤ)) (cause : Refusal) → points ≡ others → IsRefused (dimension_of others) others cause
     → IsRefused (dimension_of points) points cause
 refused_same points others cause same h = subst (λ (xs : List (List ℤ)). IsRefused (dimension_of xs) xs cause) (sym same) h
-
--- the same points have the same lists
-one_polytope_of : (points others : List (List ℤ)) (few : HaveFewPoints (dimension_of points) points)
-    (other : HaveFewPoints (dimension_of others) others) → points ≡ others → (few.lattice ≡ other.lattice)
-    × (few.polytope.vertices ≡ other.polytope.vertices) × (few.polytope.faces.facets ≡ other.polytope.faces.facets)
-one_polytope_of points others few other same = subst (λ (xs : List (List ℤ)). (g : HaveFewPoints (dimension_of xs) xs)
-    → (few.lattice ≡ g.lattice) × (few.polytope.vertices ≡ g.polytope.vertices) × (few.polytope.faces.facets ≡ g.polytope.faces.facets))
-    same (λ g. one_polytope (dimension_of points) points few g) other
 
 one_hull_refusal : (item : Listed) (cause other : Refusal) → IsHullRefusal item cause → IsHullRefusal item other → cause ≡ other
 one_hull_refusal item cause other a b =
@@ -41,82 +38,148 @@ one_hull_refusal item cause other a b =
     let some = (points_are_item_points item a.points a.has_points).sized.are_points.some in
     one_refusal (dimension_of a.points) a.points cause other some a.refused (refused_same a.points b.points other same b.refused)
 
--- an item whose faces are too many has points that aren't refused
-record HasFewPoints (item : Listed) : Type 0 where
-  points : List (List ℤ)
-  has_points : HasPoints item points
-  few : HaveFewPoints (dimension_of points) points
+-- an item has one polytope, and then its points aren't refused
+few_of : (points : List (List ℤ)) (p : PolytopeState) → IsPolytopeOf points p → HaveFewPoints (dimension_of points) points
+few_of points p h = record {
+  polytope = record {
+    faces = record { solid = h.solid.solid; facets = p.facets; are_facets = h.facets_are; few = h.few_facets };
+    vertices = p.vertices;
+    are_vertices = h.vertices_are;
+    few = h.few_vertices;
+  };
+  lattice = p.points;
+  are_lattice_points = h.points_are;
+  few = h.few_points;
+}
 
-few_points : (flags : PolyFlags) (item : Listed) (cause : Refusal) → IsFacesRefusal flags item cause → HasFewPoints item
-few_points flags item _ (many_faces m) = record { points = m.points; has_points = m.has_points; few = m.few }
+pub one_polytope_of : (item : Listed) (p q : PolytopeState) → HasPolytope item p → HasPolytope item q → p ≡ q
+one_polytope_of item p q a b =
+    let same = one_list_of_points item a.points b.points a.has_points b.has_points in
+    polytopes_are_single_lem a.points p q a.is_polytope (subst (λ (xs : List (List ℤ)). IsPolytopeOf xs q) (sym same) b.is_polytope)
 
-few_or_refused : (item : Listed) (cause : Refusal) → HasFewPoints item → IsHullRefusal item cause → ⊥
-few_or_refused item cause f b =
-    let same = one_list_of_points item f.points b.points f.has_points b.has_points in
-    polytope_or_refusal (dimension_of f.points) f.points cause f.few (refused_same f.points b.points cause same b.refused)
+polytope_or_points_refusal : (item : Listed) (p : PolytopeState) (cause : Refusal) → HasPolytope item p → IsPointsRefusal item cause → ⊥
+polytope_or_points_refusal item p cause h r = points_or_refusal item h.points cause h.has_points r
 
-one_faces_refusal : (flags : PolyFlags) (item : Listed) (cause other : Refusal) → IsFacesRefusal flags item cause
-    → IsFacesRefusal flags item other → cause ≡ other
-one_faces_refusal flags item _ _ (many_faces a) (many_faces b) = ap (Limit Faces) (a.told_is ∙ sym b.told_is)
+polytope_or_hull_refusal : (item : Listed) (p : PolytopeState) (cause : Refusal) → HasPolytope item p → IsHullRefusal item cause → ⊥
+polytope_or_hull_refusal item p cause h r =
+    let same = one_list_of_points item h.points r.points h.has_points r.has_points in
+    polytope_or_refusal (dimension_of h.points) h.points cause (few_of h.points p h.is_polytope)
+    (refused_same h.points r.points cause same r.refused)
+
+-- what is refused where the letters ask more of a polytope
+record IsOfPolytope (item : Listed) : Type 0 where
+  polytope : PolytopeState
+  has_polytope : HasPolytope item polytope
+
+of_polytope : (flags : PolyFlags) (item : Listed) (cause : Refusal) → IsAskedRefusal flags item cause → IsOfPolytope item
+of_polytope flags item cause (no_asked_dual d) = record { polytope = d.polytope; has_polytope = d.has_polytope }
+of_polytope flags item _ (many_faces m) = record { polytope = m.polytope; has_polytope = m.has_polytope }
+
+-- the dual of an item that is printed isn't refused
+dual_or_shown : (flags : PolyFlags) (item : Listed) (p : PolytopeState) (shown : Shown) (cause : Refusal) → HasPolytope item p
+    → IsShown flags p shown → HasNoAskedDual flags item cause → ⊥
+dual_or_shown flags item p shown cause h is d = shown_or_no_dual flags p shown cause is d.are_asked
+    (subst (λ (q : PolytopeState). HasNoDual q cause) (one_polytope_of item d.polytope p d.has_polytope h) d.no_dual)
+
+one_asked_refusal : (flags : PolyFlags) (item : Listed) (cause other : Refusal) → IsAskedRefusal flags item cause
+    → IsAskedRefusal flags item other → cause ≡ other
+one_asked_refusal flags item cause other (no_asked_dual a) (no_asked_dual b) = one_no_dual a.polytope cause other a.no_dual
+    (subst (λ (q : PolytopeState). HasNoDual q other) (one_polytope_of item b.polytope a.polytope b.has_polytope a.has_polytope) b.no_dual)
+one_asked_refusal flags item cause _ (no_asked_dual a) (many_faces b) =
+    absurd (dual_or_shown flags item b.polytope b.shown cause b.has_polytope b.is_shown a)
+one_asked_refusal flags item _ other (many_faces a) (no_asked_dual b) =
+    absurd (dual_or_shown flags item a.polytope a.shown other a.has_polytope a.is_shown b)
+one_asked_refusal flags item _ _ (many_faces a) (many_faces b) = ap (Limit Faces) (a.told_is ∙ sym b.told_is)
 
 pub one_item_refusal : OneItemRefusal
 one_item_refusal flags item cause other (inl a) (inl b) = one_points_refusal item cause other a b
 one_item_refusal flags item cause other (inl a) (inr (inl b)) = absurd (points_or_refusal item b.points cause b.has_points a)
 one_item_refusal flags item cause other (inl a) (inr (inr b)) =
-    let f = few_points flags item other b in absurd (points_or_refusal item f.points cause f.has_points a)
+    let f = of_polytope flags item other b in absurd (polytope_or_points_refusal item f.polytope cause f.has_polytope a)
 one_item_refusal flags item cause other (inr (inl a)) (inl b) = absurd (points_or_refusal item a.points other a.has_points b)
 one_item_refusal flags item cause other (inr (inl a)) (inr (inl b)) = one_hull_refusal item cause other a b
-one_item_refusal flags item cause other (inr (inl a)) (inr (inr b)) = absurd (few_or_refused item cause (few_points flags item other b) a)
+one_item_refusal flags item cause other (inr (inl a)) (inr (inr b)) =
+    let f = of_polytope flags item other b in absurd (polytope_or_hull_refusal item f.polytope cause f.has_polytope a)
 one_item_refusal flags item cause other (inr (inr a)) (inl b) =
-    let f = few_points flags item cause a in absurd (points_or_refusal item f.points other f.has_points b)
-one_item_refusal flags item cause other (inr (inr a)) (inr (inl b)) = absurd (few_or_refused item other (few_points flags item cause a) b)
-one_item_refusal flags item cause other (inr (inr a)) (inr (inr b)) = one_faces_refusal flags item cause other a b
+    let f = of_polytope flags item cause a in absurd (polytope_or_points_refusal item f.polytope other f.has_polytope b)
+one_item_refusal flags item cause other (inr (inr a)) (inr (inl b)) =
+    let f = of_polytope flags item cause a in absurd (polytope_or_hull_refusal item f.polytope other f.has_polytope b)
+one_item_refusal flags item cause other (inr (inr a)) (inr (inr b)) = one_asked_refusal flags item cause other a b
 
--- the same lists have the same numbers of faces
-one_counts : (vs ws : List (List ℤ)) (fs gs : List Affine) (n m : ℕ) (cs ds : List ℕ) → vs ≡ ws → fs ≡ gs → n ≡ m
-    → AreFaceCounts (valued vs fs) n cs → AreFaceCounts (valued ws gs) m ds → cs ≡ ds
-one_counts vs ws fs gs n m cs ds v f e a b = face_counts_are_single_lem (valued vs fs) n cs ds a
-    (subst (λ (xs : List (List ℤ)). AreFaceCounts (valued xs fs) n ds) (sym v)
-    (subst (λ (hs : List Affine). AreFaceCounts (valued ws hs) n ds) (sym f)
-    (subst (λ (k : ℕ). AreFaceCounts (valued ws gs) k ds) (sym e) b)))
+-- an item that isn't refused is printed in one way
+module _ (flags : PolyFlags) (item : Listed) (p : PolytopeState) (shown : Shown) (a : IsAccepted flags item p shown) where
+  pub same_shown : (q : PolytopeState) (other : Shown) → HasPolytope item q → IsShown flags q other → shown ≡ other
+  same_shown q other h is = one_shown flags p shown other a.is_shown
+      (subst (λ (r : PolytopeState). IsShown flags r other) (one_polytope_of item q p h a.has_polytope) is)
 
--- numbers of faces that aren't asked don't matter
-pub asked_faces : (on : Bool) (cs ds : List ℕ) (fs gs : List Affine) (vs ws : List (List ℤ)) → (IsTrue on → cs ≡ ds) → fs ≡ gs → vs ≡ ws
-    → asked on (incidence cs fs vs) ≡ asked on (incidence ds gs ws)
-asked_faces true cs ds fs gs vs ws e f g = same (e (search rules))
+  -- and isn't refused
+  faces_or_accepted : (told : ℕ) → HasManyFaces flags item told → ⊥
+  faces_or_accepted told m =
+      let same = sym (same_shown m.polytope m.shown m.has_polytope m.is_shown) in
+      a.few_faces (subst (AskFaces flags) same m.are_asked)
+      (subst (λ (s : Shown). HasMoreFaces (on_facets (shown_polytope s))) same m.more)
+
+  pub accepted_or_refused : (cause : Refusal) → IsItemRefused flags item cause → ⊥
+  accepted_or_refused cause (inl b) = polytope_or_points_refusal item p cause a.has_polytope b
+  accepted_or_refused cause (inr (inl b)) = polytope_or_hull_refusal item p cause a.has_polytope b
+  accepted_or_refused cause (inr (inr (no_asked_dual b))) = dual_or_shown flags item p shown cause a.has_polytope a.is_shown b
+  accepted_or_refused _ (inr (inr (many_faces {told = told} b))) = faces_or_accepted told b
+
+-- what isn't asked doesn't matter
+asked_text : (on : Bool) (xs ys : List ℕ) → (IsTrue on → xs ≡ ys) → asked on xs ≡ asked on ys
+asked_text true xs ys e = e (search rules)
+asked_text false xs ys e = refl
+
+-- the numbers on the general line
+same_line : (flags : PolyFlags) (shown : Shown) (a b : HodgeLine) → AreNumbersOf flags shown a → AreNumbersOf flags shown b
+    → IsTrue flags.general → general_line shown a ≡ general_line shown b
+same_line flags (Alone p) a b h k on = refl
+same_line flags (Paired pair) a b h k on = ap (general_line (Paired pair)) (one_line pair.m a b (h on) (k on))
+
+-- one text is printed in one way
+pub one_text : (flags : PolyFlags) (item : Listed) (shown other : Shown) → shown ≡ other → (a b : HodgeLine) → AreNumbersOf flags shown a
+    → AreNumbersOf flags other b → (cs ds : List ℕ)
+    → (IsTrue flags.incidence → AreFaceCounts (on_facets (shown_polytope shown)) (dimension_of (shown_polytope shown).vertices) cs)
+    → (IsTrue flags.incidence → AreFaceCounts (on_facets (shown_polytope other)) (dimension_of (shown_polytope other).vertices) ds)
+    → blocks flags item shown a cs ≡ blocks flags item other b ds
+one_text flags item shown other same a b h k cs ds c d =
+    both ∙ ap (λ (s : Shown). blocks flags item s b ds) same
   where
-    same : cs ≡ ds → incidence cs fs vs ≡ incidence ds gs ws
-    same c = λ i. incidence (c i) (f i) (g i)
-asked_faces false cs ds fs gs vs ws e f g = refl
+    b_is : AreNumbersOf flags shown b
+    b_is = subst (λ (s : Shown). AreNumbersOf flags s b) (sym same) k
 
-same_blocks : (flags : PolyFlags) (item : Listed) (xs ys vs ws : List (List ℤ)) (fs gs : List Affine) (cs ds : List ℕ) → xs ≡ ys → vs ≡ ws
-    → fs ≡ gs → asked flags.incidence (incidence cs fs vs) ≡ asked flags.incidence (incidence ds gs ws)
-    → blocks flags item xs vs fs cs ≡ blocks flags item ys ws gs ds
-same_blocks flags item xs ys vs ws fs gs cs ds e f g h = λ i.
-    asked flags.general (item_echo item ++ body_line (length (e i)) (length (f i)) (length (g i)))
-    ++ (asked flags.points (columns Points (e i)) ++ (asked flags.vertices (columns Vertices (f i))
-    ++ (asked flags.equations (facet_block (g i)) ++ (asked flags.matrix (pairing (g i) (f i)) ++ h i))))
+    ds_are : IsTrue flags.incidence → AreFaceCounts (on_facets (shown_polytope shown)) (dimension_of (shown_polytope shown).vertices) ds
+    ds_are on = subst (λ (s : Shown). AreFaceCounts (on_facets (shown_polytope s)) (dimension_of (shown_polytope s).vertices) ds) (sym same) (d on)
+
+    line : asked flags.general (item_echo item ++ general_line shown a) ≡ asked flags.general (item_echo item ++ general_line shown b)
+    line = asked_text flags.general _ _ (λ on. ap (λ (t : List ℕ). item_echo item ++ t) (same_line flags shown a b h b_is on))
+
+    counted : asked flags.incidence (incidence cs (shown_polytope shown).facets (shown_polytope shown).vertices)
+        ≡ asked flags.incidence (incidence ds (shown_polytope shown).facets (shown_polytope shown).vertices)
+    counted = asked_text flags.incidence _ _ (λ on. ap
+        (λ (ns : List ℕ). incidence ns (shown_polytope shown).facets (shown_polytope shown).vertices)
+        (face_counts_are_single_lem (on_facets (shown_polytope shown)) (dimension_of (shown_polytope shown).vertices) cs ds (c on) (ds_are on)))
+
+    both : blocks flags item shown a cs ≡ blocks flags item shown b ds
+    both = λ i. line i ++ (asked flags.points (columns Points (shown_polytope shown).points)
+        ++ (asked flags.vertices (columns Vertices (shown_polytope shown).vertices)
+        ++ (asked flags.equations (facet_block (shown_polytope shown).facets)
+        ++ (asked flags.matrix (pairing (shown_polytope shown).facets (shown_polytope shown).vertices)
+        ++ (asked flags.dual_points (dual_columns shown) ++ counted i)))))
 
 pub one_piece : OnePiece
 one_piece flags item piece other a b =
-    let same = one_list_of_points item a.points b.points a.has_points b.has_points in
-    let one = one_polytope_of a.points b.points a.few b.few same in
-    let faces = asked_faces flags.incidence a.counts b.counts _ _ _ _ (λ t. one_counts _ _ _ _ _ _ a.counts b.counts one.1 one.2
-    (ap (λ (xs : List (List ℤ)). dimension_of xs) same) (a.faces t).are_counts (b.faces t).are_counts) one.2 one.1 in
-    a.written ∙ (same_blocks flags item _ _ _ _ _ _ a.counts b.counts one.0 one.1 one.2 faces ∙ sym b.written)
-
--- a piece and too many faces
-faces_or_piece : (flags : PolyFlags) (item : Listed) (piece : List ℕ) (cause : Refusal) → IsPiece flags item piece
-    → IsFacesRefusal flags item cause → ⊥
-faces_or_piece flags item piece _ a (many_faces m) =
-    let same = one_list_of_points item a.points m.points a.has_points m.has_points in
-    let one = one_polytope_of a.points m.points a.few m.few same in
-    (a.faces m.are_asked).few
-    (subst (λ (vs : List (List ℤ)). HasMoreFaces (valued vs a.few.polytope.faces.facets)) (sym one.1)
-    (subst (λ (fs : List Affine). HasMoreFaces (valued m.few.polytope.vertices fs)) (sym one.2) m.more))
+    let same = same_shown flags item a.polytope a.shown a.accepted b.polytope b.shown b.accepted.has_polytope b.accepted.is_shown in
+    a.written ∙ one_text flags item a.shown b.shown same a.numbers b.numbers a.are_numbers b.are_numbers a.counts b.counts a.are_counts
+    b.are_counts ∙ sym b.written
 
 pub piece_or_refusal : PieceOrRefusal
-piece_or_refusal flags item piece cause a (inl b) = points_or_refusal item a.points cause a.has_points b
-piece_or_refusal flags item piece cause a (inr (inl b)) =
-    few_or_refused item cause (record { points = a.points; has_points = a.has_points; few = a.few }) b
-piece_or_refusal flags item piece cause a (inr (inr b)) = faces_or_piece flags item piece cause a b
+piece_or_refusal flags item piece cause a r = accepted_or_refused flags item a.polytope a.shown a.accepted cause r
+
+pub piece_or_none : PieceOrNone
+piece_or_none flags item piece a b =
+    b.other (subst IsReflexivePolytope (one_polytope_of item a.polytope b.polytope a.accepted.has_polytope b.accepted.has_polytope)
+    (a.is_wanted b.reflexive_only))
+
+pub none_or_refusal : NoneOrRefusal
+none_or_refusal flags item cause a r = accepted_or_refused flags item a.polytope a.shown a.accepted cause r

@@ -13,12 +13,12 @@ use Rattle.palp_words.specs.declared.job.Job.TheVariants.{Poly, Nef, Cws, Sweep}
 use Rattle.palp_words.specs.declared.job.PolyFlags.{PolyFlags}
 use Rattle.palp_input.specs.Grammar.{Listed, TextEnd}
 use Rattle.palp_engine.specs.Entries.{Entry, TextItem, ListSystem, ListEnd, AreEntries}
-use Rattle.palp_engine.specs.Commands.{BlocksSay, printed, whole, refused, Says, IsBuilt, AreBuilt, AreUnbuilt}
+use Rattle.palp_engine.specs.Commands.{BlocksSay, printed, whole, unwanted, refused, Says, IsBuilt, AreBuilt, AreUnbuilt}
 use Rattle.palp_engine.specs.Texts.{outcome_with, HaveReport, of_entries, of_unbuilt, of_bad_words, IsFront, no_front, front_of_entries}
 use Rattle.palp_engine.specs.Laws.{OneListOfEntries, OneList, OneReport, FrontsAreFronts, EmptyFront}
 use Rattle.palp_engine.specs.declared.outcome.Outcome.{Outcome}
 use Rattle.palp_engine.specs.declared.outcome.Outcome.TheVariants.{BadWords}
-use Rattle.palp_engine.proofs.SingleItems.{one_piece, one_item_refusal, piece_or_refusal}
+use Rattle.palp_engine.proofs.SingleItems.{one_piece, one_item_refusal, piece_or_refusal, piece_or_none, none_or_refusal}
 
 says_one_piece : (flags : PolyFlags) (item : Listed) (k : ℕ) (step other : Step Refusal) → BlocksSay flags item k step
     → BlocksSay flags item k other → step ≡ other
@@ -27,10 +27,15 @@ says_one_piece flags item _ _ _ (printed {bytes = p} a) (refused {cause = c} b) 
 says_one_piece flags item _ _ _ (refused {cause = c} a) (printed {bytes = p} b) = absurd (piece_or_refusal flags item p c b a)
 says_one_piece flags item _ _ _ (refused {cause = c} a) (refused {cause = d} b) =
     ap (λ (x : Refusal). Close (Ends x)) (one_item_refusal flags item c d a b)
+says_one_piece flags item _ _ _ (printed {bytes = p} a) (unwanted b) = absurd (piece_or_none flags item p a b)
+says_one_piece flags item _ _ _ (unwanted a) (printed {bytes = q} b) = absurd (piece_or_none flags item q b a)
+says_one_piece flags item _ _ _ (unwanted a) (refused {cause = d} b) = absurd (none_or_refusal flags item d a b)
+says_one_piece flags item _ _ _ (refused {cause = c} a) (unwanted b) = absurd (none_or_refusal flags item c b a)
+says_one_piece flags item _ _ _ (unwanted a) (unwanted b) = refl
 says_one_piece flags item _ _ _ whole whole = refl
 
 pub says_one : (job : Job) → SaysOne (Says job)
-says_one (Poly flags) (TextItem item) k step other a b = says_one_piece flags item k step other a.1 b.1
+says_one (Poly flags) (TextItem item) k step other a b = says_one_piece flags item k step other a b
 says_one (Poly flags) (ListSystem system) k step other a b = absurd a
 says_one (Poly flags) (ListEnd systems) k step other a b = absurd a
 says_one (Nef words) entry k step other a b = absurd a

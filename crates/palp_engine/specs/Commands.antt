@@ -1,5 +1,5 @@
 -- The jobs that are built, and what they say of an item. This project's own.
-use Rattle.std.specs.Prelude.{◌≡◌, ℕ, Bool, List, not, ◌&&◌, ◌||◌, IsTrue, Ok}
+use Rattle.std.specs.Prelude.{◌≡◌, ℕ, List, Ok}
 use Rattle.lattice_core.specs.declared.faults.Refusal.{Refusal}
 use Rattle.report_theory.specs.Report.{Whole, Ends, Step, Piece, Close}
 use Rattle.palp_words.specs.Words.{words_of}
@@ -7,17 +7,12 @@ use Rattle.palp_words.specs.declared.job.Job.{Job}
 use Rattle.palp_words.specs.declared.job.Job.TheVariants.{Poly, Nef, Cws, Sweep}
 use Rattle.palp_words.specs.declared.job.PolyFlags.{PolyFlags}
 use Rattle.palp_input.specs.Grammar.{Listed}
-use Rattle.palp_engine.specs.Items.{IsItemRefused, IsPiece}
+use Rattle.palp_engine.specs.Items.{IsItemRefused, IsPiece, IsUnwanted}
 use Rattle.palp_engine.specs.Entries.{Entry, TextItem, ListSystem, ListEnd}
 
--- the letters that are built: the general line in its form without a dual, the points, the vertices, the facets, the pairing and the
--- incidences
-abbrev pub are_built : PolyFlags → Bool
-are_built flags = not flags.dual_points && (not flags.reflexive_only && (not flags.dual_input && (flags.plain || not flags.general)))
-
--- the job is built: `poly` with such letters
+-- the job is built: `poly`
 abbrev pub IsBuilt : Job → Type 0
-IsBuilt (Poly flags) = IsTrue (are_built flags)
+IsBuilt (Poly flags) = Unit {0}
 IsBuilt (Nef words) = ⊥
 IsBuilt (Cws words) = ⊥
 IsBuilt (Sweep words) = ⊥
@@ -41,15 +36,16 @@ pub record AreUnbuilt (words : List (List ℕ)) : Type 0 where
   pub gives : words_of words ≡ Ok job
   pub other : IsBuilt job → ⊥
 
--- `poly` says of an item its one piece and then no more, or its refusal
+-- `poly` says of an item its one piece and then no more, or no piece, or its refusal
 pub data BlocksSay (flags : PolyFlags) (item : Listed) : ℕ → Step Refusal → Type 0 where
   printed : {bytes : List ℕ} → IsPiece flags item bytes → BlocksSay flags item 0 (Piece bytes)
   whole : BlocksSay flags item 1 (Close Whole)
+  unwanted : IsUnwanted flags item → BlocksSay flags item 0 (Close Whole)
   refused : {cause : Refusal} → IsItemRefused flags item cause → BlocksSay flags item 0 (Close (Ends cause))
 
 -- What `poly` says of an entry, which is an item of a text.
 abbrev pub PolySays : PolyFlags → Entry → ℕ → Step Refusal → Type 0
-PolySays flags (TextItem item) k step = IsTrue (are_built flags) × BlocksSay flags item k step
+PolySays flags (TextItem item) k step = BlocksSay flags item k step
 PolySays flags (ListSystem system) k step = ⊥
 PolySays flags (ListEnd systems) k step = ⊥
 

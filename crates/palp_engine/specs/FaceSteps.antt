@@ -12,6 +12,11 @@ use Rattle.face_closing.specs.Tables.{HasMoreFaces}
 use Rattle.face_closing.specs.declared.limits.TheConstants.{MOST_FACES}
 use Rattle.incidence.specs.Incidences.{IncidenceState, IsHeld, Tells}
 use Rattle.face_poset.specs.Faces.{FaceState, TableState}
+use Rattle.face_poset.specs.Counts.{AreFaceCounts}
+use Rattle.dual_pair.specs.Polytopes.{PolytopeState}
+use Rattle.batyrev.specs.Lines.{IsHodgeLine}
+use Rattle.batyrev.specs.declared.line.HodgeLine.{HodgeLine}
+use Rattle.batyrev.specs.declared.line.HodgeLine.TheVariants as lines
 use Rattle.palp_print.specs.Blocks.{ArePaired}
 
 -- a pool has room for the rows of the most vertices and facets, which are wide enough for them
@@ -44,6 +49,16 @@ IsFaceLimit R (Limit name told) = (name ≡ Faces) × (told ≡ MOST_FACES + 1) 
 -- that stops the work on a polytope where the faces are asked
 abbrev pub IsFaceStop : Bool → TightRelation → Refusal → Type 0
 IsFaceStop on R cause = IsTrue on × IsFaceLimit R cause
+
+-- there are few faces, and so many of each of the ranks 1 to n
+pub record HaveFewFaces (R : TightRelation) (n : ℕ) (counts : List ℕ) : Type 0 where
+  pub few : HasMoreFaces R → ⊥
+  pub are_counts : AreFaceCounts R n counts
+
+-- Batyrev's numbers where they are asked, and otherwise none
+pub record AreNumbersWhere (on : Bool) (p : PolytopeState) (numbers : HodgeLine) : Type 0 where
+  pub asked : IsTrue on → IsHodgeLine p numbers
+  pub none : (IsTrue on → ⊥) → numbers ≡ lines.None
 
 -- how many faces of a list have a rank, and have the ranks 1 to 6
 abbrev pub with_rank : List FaceState → ℕ → ℕ

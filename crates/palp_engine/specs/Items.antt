@@ -1,4 +1,4 @@
--- The piece of an item in the report of `poly`, or why the item is refused. This project's own.
+-- The piece of an item in the report of `poly`, or that it has none, or why the item is refused. This project's own.
 use Rattle.std.specs.Prelude.{◌≡◌, ◌⊎◌, ℕ, ◌+◌, Bool, true, false, List, [], ◌++◌, length, if◌then◌else◌, IsTrue, ℤ, pos}
 use Rattle.std.specs.List.{list_all}
 use Rattle.std.specs.Ordering.{int_eq}
@@ -10,15 +10,18 @@ use Rattle.lattice_core.specs.declared.faults.LimitName.TheVariants.{Faces}
 use Rattle.palp_words.specs.declared.job.PolyFlags.{PolyFlags}
 use Rattle.palp_input.specs.Grammar.{Listed, ListedWeights, ListedPoints}
 use Rattle.item_points.specs.Points.{HasPoints, IsPointsRefusal}
-use Rattle.face_theory.specs.Faces.{TightRelation}
-use Rattle.face_theory.specs.Pairings.{valued}
 use Rattle.face_closing.specs.Tables.{HasMoreFaces}
 use Rattle.face_closing.specs.declared.limits.TheConstants.{MOST_FACES}
 use Rattle.face_poset.specs.Counts.{AreFaceCounts}
-use Rattle.palp_print.specs.Lists.{echo, body_line}
+use Rattle.dual_pair.specs.Polytopes.{PolytopeState, IsPolytopeOf}
+use Rattle.dual_pair.specs.Pairs.{IsReflexivePolytope, HasNoDual}
+use Rattle.dual_pair.specs.Faces.{on_facets}
+use Rattle.batyrev.specs.declared.line.HodgeLine.{HodgeLine}
+use Rattle.palp_print.specs.Lists.{echo, body_line, pair_line}
 use Rattle.palp_print.specs.Blocks.{columns, dual_rows, equations, pairing, incidence}
-use Rattle.palp_print.specs.declared.titles.Title.TheVariants.{Vertices, Points}
-use Rattle.palp_engine.specs.Reports.{IsRefused, HaveFewPoints}
+use Rattle.palp_print.specs.declared.titles.Title.TheVariants.{Vertices, Points, DualPoints}
+use Rattle.palp_engine.specs.Reports.{IsRefused}
+use Rattle.palp_engine.specs.Shown.{ask_dual, Shown, Alone, Paired, shown_polytope, IsShown, AskFaces, AreNumbersOf}
 
 -- why an item with points is refused
 pub record IsHullRefusal (item : Listed) (cause : Refusal) : Type 0 where
@@ -26,27 +29,37 @@ pub record IsHullRefusal (item : Listed) (cause : Refusal) : Type 0 where
   pub has_points : HasPoints item points
   pub refused : IsRefused (dimension_of points) points cause
 
--- the item has points that aren't refused, but the incidences are asked and there are too many faces: the limit and one are told
-pub record HasManyFaces (flags : PolyFlags) (item : Listed) (told : ℕ) : Type 0 where
-  pub are_asked : IsTrue flags.incidence
+-- the item has points that aren't refused, and this is their polytope
+pub record HasPolytope (item : Listed) (p : PolytopeState) : Type 0 where
   pub points : List (List ℤ)
   pub has_points : HasPoints item points
-  pub few : HaveFewPoints (dimension_of points) points
-  pub more : HasMoreFaces (valued few.polytope.vertices few.polytope.faces.facets)
+  pub is_polytope : IsPolytopeOf points p
+
+-- the polytope is reflexive and its dual is asked, but exceeds a limit
+pub record HasNoAskedDual (flags : PolyFlags) (item : Listed) (cause : Refusal) : Type 0 where
+  pub polytope : PolytopeState
+  pub has_polytope : HasPolytope item polytope
+  pub are_asked : IsTrue (ask_dual flags)
+  pub no_dual : HasNoDual polytope cause
+
+-- the faces of what is printed are asked, but too many: the limit and one are told
+pub record HasManyFaces (flags : PolyFlags) (item : Listed) (told : ℕ) : Type 0 where
+  pub polytope : PolytopeState
+  pub has_polytope : HasPolytope item polytope
+  pub shown : Shown
+  pub is_shown : IsShown flags polytope shown
+  pub are_asked : AskFaces flags shown
+  pub more : HasMoreFaces (on_facets (shown_polytope shown))
   pub told_is : told ≡ MOST_FACES + 1
 
--- why what the letters ask of such an item is refused
-pub data IsFacesRefusal (flags : PolyFlags) (item : Listed) : Refusal → Type 0 where
-  many_faces : {told : ℕ} → HasManyFaces flags item told → IsFacesRefusal flags item (Limit Faces told)
+-- why what the letters ask of an item's polytope is refused: first the dual, then the faces
+pub data IsAskedRefusal (flags : PolyFlags) (item : Listed) : Refusal → Type 0 where
+  no_asked_dual : {cause : Refusal} → HasNoAskedDual flags item cause → IsAskedRefusal flags item cause
+  many_faces : {told : ℕ} → HasManyFaces flags item told → IsAskedRefusal flags item (Limit Faces told)
 
 -- why an item is refused: it has no points within the limits, or these are refused, or what the letters ask of them is
 abbrev pub IsItemRefused : PolyFlags → Listed → Refusal → Type 0
-IsItemRefused flags item cause = IsPointsRefusal item cause ⊎ (IsHullRefusal item cause ⊎ IsFacesRefusal flags item cause)
-
--- there are few faces, and so many of each of the ranks 1 to n
-pub record HaveFewFaces (R : TightRelation) (n : ℕ) (counts : List ℕ) : Type 0 where
-  pub few : HasMoreFaces R → ⊥
-  pub are_counts : AreFaceCounts R n counts
+IsItemRefused flags item cause = IsPointsRefusal item cause ⊎ (IsHullRefusal item cause ⊎ IsAskedRefusal flags item cause)
 
 -- what stands in front of an item's general line: the numbers of a weight line
 abbrev pub item_echo : Listed → List ℕ
@@ -66,19 +79,52 @@ abbrev pub asked : Bool → List ℕ → List ℕ
 asked true text = text
 asked false text = []
 
--- the blocks that the letters ask of an item with these lattice points, vertices and facets, and these numbers of faces
-abbrev pub blocks : PolyFlags → Listed → List (List ℤ) → List (List ℤ) → List Affine → List ℕ → List ℕ
-blocks flags item lattice vertices facets counts =
-    asked flags.general (item_echo item ++ body_line (length lattice) (length vertices) (length facets))
-    ++ (asked flags.points (columns Points lattice) ++ (asked flags.vertices (columns Vertices vertices)
-    ++ (asked flags.equations (facet_block facets) ++ (asked flags.matrix (pairing facets vertices)
-    ++ asked flags.incidence (incidence counts facets vertices)))))
+-- the general line: with the numbers of the dual and Batyrev's numbers where there is a dual, and otherwise with the number of facets
+abbrev pub general_line : Shown → HodgeLine → List ℕ
+general_line (Alone p) numbers = body_line (length p.points) (length p.vertices) (length p.facets)
+general_line (Paired pair) numbers =
+    pair_line (length pair.m.points) (length pair.m.vertices) (length pair.n.points) (length pair.n.vertices) numbers
+
+-- the points of the dual, where there is one
+abbrev pub dual_columns : Shown → List ℕ
+dual_columns (Alone p) = []
+dual_columns (Paired pair) = columns DualPoints pair.n.points
+
+-- the blocks of lists that the letters ask, with those of the dual's points, and with numbers of faces
+abbrev pub list_blocks : PolyFlags → PolytopeState → List ℕ → List ℕ → List ℕ
+list_blocks flags p duals counts =
+    asked flags.points (columns Points p.points) ++ (asked flags.vertices (columns Vertices p.vertices)
+    ++ (asked flags.equations (facet_block p.facets) ++ (asked flags.matrix (pairing p.facets p.vertices)
+    ++ (asked flags.dual_points duals ++ asked flags.incidence (incidence counts p.facets p.vertices)))))
+
+-- the blocks that the letters ask of an item of which this is printed, with these numbers
+abbrev pub blocks : PolyFlags → Listed → Shown → HodgeLine → List ℕ → List ℕ
+blocks flags item shown numbers counts = asked flags.general (item_echo item ++ general_line shown numbers)
+    ++ list_blocks flags (shown_polytope shown) (dual_columns shown) counts
+
+-- the item isn't refused, and this is printed of it
+pub record IsAccepted (flags : PolyFlags) (item : Listed) (polytope : PolytopeState) (shown : Shown) : Type 0 where
+  pub has_polytope : HasPolytope item polytope
+  pub is_shown : IsShown flags polytope shown
+  pub few_faces : AskFaces flags shown → HasMoreFaces (on_facets (shown_polytope shown)) → ⊥
 
 -- the item isn't refused, and this is its piece of the report: the blocks that the letters ask
 pub record IsPiece (flags : PolyFlags) (item : Listed) (piece : List ℕ) : Type 0 where
-  pub points : List (List ℤ)
-  pub has_points : HasPoints item points
-  pub few : HaveFewPoints (dimension_of points) points
+  pub polytope : PolytopeState
+  pub shown : Shown
+  pub accepted : IsAccepted flags item polytope shown
+  pub is_wanted : IsTrue flags.reflexive_only → IsReflexivePolytope polytope
+  pub numbers : HodgeLine
+  pub are_numbers : AreNumbersOf flags shown numbers
   pub counts : List ℕ
-  pub faces : IsTrue flags.incidence → HaveFewFaces (valued few.polytope.vertices few.polytope.faces.facets) (dimension_of points) counts
-  pub written : piece ≡ blocks flags item few.lattice few.polytope.vertices few.polytope.faces.facets counts
+  pub are_counts : IsTrue flags.incidence
+      → AreFaceCounts (on_facets (shown_polytope shown)) (dimension_of (shown_polytope shown).vertices) counts
+  pub written : piece ≡ blocks flags item shown numbers counts
+
+-- the item isn't refused, and it has no piece: only reflexive polytopes are to be printed, and its isn't
+pub record IsUnwanted (flags : PolyFlags) (item : Listed) : Type 0 where
+  pub polytope : PolytopeState
+  pub shown : Shown
+  pub accepted : IsAccepted flags item polytope shown
+  pub reflexive_only : IsTrue flags.reflexive_only
+  pub other : IsReflexivePolytope polytope → ⊥

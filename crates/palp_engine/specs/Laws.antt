@@ -1,5 +1,5 @@
 -- What is said of points, of items and of texts is said once: the laws of this crate, as statements. This project's own.
-use Rattle.std.specs.Prelude.{◌≡◌, ℕ, ◌<◌, List, [], ℤ, length}
+use Rattle.std.specs.Prelude.{◌≡◌, ℕ, ◌<◌, true, false, List, [], ℤ, length}
 use Rattle.std.specs.List.{concat}
 use Rattle.lattice_core.specs.declared.faults.Refusal.{Refusal}
 use Rattle.palp_io.specs.Sink.{IsPrefix}
@@ -7,8 +7,9 @@ use Rattle.report_theory.specs.Report.{Closing, ArePieces}
 use Rattle.palp_words.specs.declared.job.Job.{Job}
 use Rattle.palp_words.specs.declared.job.PolyFlags.{PolyFlags}
 use Rattle.palp_input.specs.Grammar.{Listed, TextEnd}
+use Rattle.dual_pair.specs.Pairs.{PairState, IsPair}
 use Rattle.palp_engine.specs.Reports.{HaveFewPoints, IsRefused}
-use Rattle.palp_engine.specs.Items.{IsItemRefused, IsPiece}
+use Rattle.palp_engine.specs.Items.{HasPolytope, IsItemRefused, IsPiece, IsUnwanted, item_echo}
 use Rattle.palp_engine.specs.Entries.{Entry, AreEntries}
 use Rattle.palp_engine.specs.Commands.{Says}
 use Rattle.palp_engine.specs.Texts.{HaveReport, IsReport, IsFront}
@@ -43,6 +44,35 @@ OneItemRefusal = (flags : PolyFlags) (item : Listed) (cause other : Refusal) →
 abbrev pub PieceOrRefusal : Type 0
 PieceOrRefusal = (flags : PolyFlags) (item : Listed) (piece : List ℕ) (cause : Refusal) → IsPiece flags item piece
     → IsItemRefused flags item cause → ⊥
+
+-- and so isn't one that has none, as it isn't wanted
+abbrev pub PieceOrNone : Type 0
+PieceOrNone = (flags : PolyFlags) (item : Listed) (piece : List ℕ) → IsPiece flags item piece → IsUnwanted flags item → ⊥
+
+-- an item that has none isn't refused
+abbrev pub NoneOrRefusal : Type 0
+NoneOrRefusal = (flags : PolyFlags) (item : Listed) (cause : Refusal) → IsUnwanted flags item → IsItemRefused flags item cause → ⊥
+
+-- The way back: of a reflexive polytope the letters print what the same letters with `D` print of its dual, so an item whose points are those of
+-- the dual's block has the piece of the first item, but for the numbers of a weight line.
+abbrev pub with_dual : PolyFlags → PolyFlags
+with_dual flags = record {
+  general = flags.general;
+  points = flags.points;
+  vertices = flags.vertices;
+  equations = flags.equations;
+  matrix = flags.matrix;
+  dual_points = flags.dual_points;
+  incidence = flags.incidence;
+  reflexive_only = flags.reflexive_only;
+  dual_input = true;
+  plain = flags.plain;
+}
+
+abbrev pub WayBack : Type 0
+WayBack = (flags : PolyFlags) (item back : Listed) (pair : PairState) (piece other : List ℕ) → flags.plain ≡ false → flags.dual_input ≡ false
+    → IsPair pair → HasPolytope item pair.m → HasPolytope back pair.n → item_echo item ≡ item_echo back → IsPiece flags item piece
+    → IsPiece (with_dual flags) back other → piece ≡ other
 
 -- a job reports on one list of entries of a text, which ends in one way
 abbrev pub OneListOfEntries : Type 0

@@ -1,4 +1,5 @@
 pub mod Reports
+pub mod Shown
 pub mod Items
 pub mod Entries
 pub mod Commands
@@ -10,4 +11,5 @@ pub mod Sessions
 pub mod Runs
 pub mod RunSteps
 pub mod FaceSteps
+pub mod PieceSteps
 pub mod Laws

@@ -1,5 +1,5 @@
 -- What the steps of a run answer. This project's own.
-use Rattle.std.specs.Prelude.{◌≡◌, ℕ, ◌+◌, ◌≤◌, min, Bool, IsTrue, List, ◌++◌, length, ℤ, Err}
+use Rattle.std.specs.Prelude.{◌≡◌, ℕ, ◌+◌, ◌≤◌, min, Bool, IsTrue, List, length, ℤ, Err}
 use Rattle.lattice_theory.specs.Affine.{Affine}
 use Rattle.lattice_theory.specs.Hull.{AreVertices}
 use Rattle.lattice_theory.specs.Facet.{AreFacets}
@@ -14,16 +14,12 @@ use Rattle.palp_io.specs.Source.{SourceState}
 use Rattle.palp_io.specs.Sink.{SinkState}
 use Rattle.palp_words.specs.Words.{words_of}
 use Rattle.palp_words.specs.declared.job.Job.{Job}
-use Rattle.palp_words.specs.declared.job.PolyFlags.{PolyFlags}
 use Rattle.palp_input.specs.Grammar.{Listed, ListedWeights, ListedPoints}
 use Rattle.palp_input.specs.declared.fault.NextFault.{NextFault}
 use Rattle.palp_input.specs.declared.fault.NextFault.TheVariants.{Text, TooLong, Read, NoMemory as NoTextMemory}
 use Rattle.facet_theory.specs.Solid.{AreSolid}
-use Rattle.palp_print.specs.Lists.{body_line}
-use Rattle.palp_print.specs.Blocks.{columns, pairing, incidence, AreFunctions, ArePaired}
-use Rattle.palp_print.specs.declared.titles.Title.TheVariants.{Vertices as VertexColumns, Points as PointColumns}
-use Rattle.palp_engine.specs.Items.{item_echo, facet_block, asked}
-use Rattle.palp_engine.specs.Reports.{HaveFewPoints}
+use Rattle.dual_pair.specs.Polytopes.{PolytopeState, IsPolytopeOf}
+use Rattle.palp_print.specs.Blocks.{AreFunctions, ArePaired}
 use Rattle.palp_engine.specs.declared.polytopes.Polytope.{Polytope}
 use Rattle.palp_engine.specs.declared.polytopes.Lattice.{Lattice}
 use Rattle.palp_engine.specs.Commands.{AreBuilt, AreUnbuilt}
@@ -68,24 +64,15 @@ pub record ArePrinted (listed : Bool) (polytope : Polytope) : Type 0 where
   pub facets : AreFunctions polytope.facets.items
   pub paired : ArePaired polytope.facets.items polytope.vertices.items
 
--- the blocks that the letters ask of an item whose polytope was worked out, with the numbers of its faces where they are asked
-abbrev pub blocks_of : PolyFlags → Listed → Polytope → List ℕ → List ℕ
-blocks_of flags item polytope counts =
-    asked flags.general (item_echo item ++ body_line polytope.count (length polytope.vertices.items) (length polytope.facets.items))
-    ++ (asked flags.points (columns PointColumns polytope.lattice.items)
-    ++ (asked flags.vertices (columns VertexColumns polytope.vertices.items)
-    ++ (asked flags.equations (facet_block polytope.facets.items)
-    ++ (asked flags.matrix (pairing polytope.facets.items polytope.vertices.items)
-    ++ asked flags.incidence (incidence counts polytope.facets.items polytope.vertices.items)))))
-
 -- what is kept of points that aren't refused: the number of their lattice points, all of them where they are listed, vertices and facets
-pub record IsPolytope (points : List (List ℤ)) (listed : Bool) (polytope : Polytope) : Type 0 where
-  pub few : HaveFewPoints (dimension_of points) points
-  pub count_is : polytope.count ≡ length few.lattice
-  pub lattice_is : IsTrue listed → polytope.lattice.items ≡ few.lattice
-  pub vertices_are : polytope.vertices.items ≡ few.polytope.vertices
-  pub facets_are : polytope.facets.items ≡ few.polytope.faces.facets
-  pub printed : ArePrinted listed polytope
+pub record IsKept (points : List (List ℤ)) (listed : Bool) (kept : Polytope) : Type 0 where
+  pub polytope : PolytopeState
+  pub is_polytope : IsPolytopeOf points polytope
+  pub count_is : kept.count ≡ length polytope.points
+  pub lattice_is : IsTrue listed → kept.lattice.items ≡ polytope.points
+  pub vertices_are : kept.vertices.items ≡ polytope.vertices
+  pub facets_are : kept.facets.items ≡ polytope.facets
+  pub printed : ArePrinted listed kept
 
 -- the item is a weight line
 abbrev pub IsWeightLine : Listed → Type 0

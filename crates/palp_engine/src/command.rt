@@ -2,7 +2,7 @@
 
 ghost use Rattle.std.specs.Prelude.{◌≡◌, ◌<◌, ◌≤◌, ◌^◌, ◌↔◌, IsTrue, map, length};
 ghost use Rattle.std.specs.String.{string_bytes};
-ghost use Rattle.palp_engine.specs.Commands.{IsBuilt, are_built};
+ghost use Rattle.palp_engine.specs.Commands.{IsBuilt};
 ghost use Rattle.palp_engine.specs.Notes.{note_of as outcome_note, IsNoted};
 ghost use Rattle.palp_engine.specs.RunSteps.{IsAnswered, IsPerformed, IsStopped, outcome_unread};
 ghost use Rattle.palp_engine.specs.Runs.{HasTaken, TellsBadWords, TellsNotBuilt, IsDone, IsRefusal, IsReported, HasReadFault, HasWriteFault, IsReportedInPart, IsComplete};
@@ -14,31 +14,15 @@ use lattice_core::Refusal;
 use palp_input::{NextFault, Reader};
 use palp_io::{Sink, Source};
 use palp_print::{Note, note_line};
-use palp_words::{Job, PolyFlags, read_words};
+use palp_words::{Job, read_words};
 use std::alloc::Global;
 
-/// Whether these letters of `poly` are built.
-fn letters_are_built(flags: &PolyFlags) -> bool
-    ensures { result ≡ are_built flags.now }
-{
-    if flags.dual_points {
-        return false;
-    }
-    if flags.reflexive_only {
-        return false;
-    }
-    if flags.dual_input {
-        return false;
-    }
-    flags.plain || !flags.general
-}
-
-/// Whether the job is `poly` with letters that are built.
+/// Whether the job is `poly`, the command that is built.
 fn is_built(job: &Job) -> bool
     ensures { IsTrue result ↔ IsBuilt job.now }
 {
     match job {
-        Job::Poly(flags) => letters_are_built(flags),
+        Job::Poly(_) => true,
         Job::Nef(_) => false,
         Job::Cws(_) => false,
         Job::Sweep(_) => false,
@@ -136,10 +120,12 @@ fn answer<S: Source, O: Sink>(alloc: Global, words: &[String], src: &mut S, out:
 /// Runs the command that the words say, which are those of the command line without the program's name; there are fewer than 2^31.
 ///
 /// `poly` reads the items of the source's text (docs/formats.md) and reports them one after another, each before it reads on: for each one the
-/// blocks that its letters ask. Built are `g` with `n`, the line `M:points vertices F:facets` behind the numbers of a weight line; `p`, the
-/// lattice points; `v`, the vertices; `e`, the facets; `m`, the pairing of facets and vertices; and `i`, the numbers of faces and which vertices
-/// lie on which facets. `Done` comes where the whole
-/// report was given. `Refused` tells the first item that exceeds a limit (docs/limits.md) or is flat, `BadText` the first fault of the
+/// blocks that its letters ask. `g` is the general line, behind the numbers of a weight line: of a reflexive polytope
+/// `M:points vertices N:points vertices` with the numbers of the dual and, in dimension 3, 4 and 5, Batyrev's numbers, and otherwise, or with `n`,
+/// `M:points vertices F:facets`. `p` are the lattice points, `v` the vertices, `e` the facets, `m` the pairing of facets and vertices, `d` the
+/// points of the dual of a reflexive polytope, `i` the numbers of faces and which vertices lie on which facets, and `a` all of these but `i`. With
+/// `D` the dual of a reflexive polytope takes its place in all of this, and with `r` nothing is printed of a polytope that isn't reflexive.
+/// `Done` comes where the whole report was given. `Refused` tells the first item that exceeds a limit (docs/limits.md) or is flat, `BadText` the first fault of the
 /// text, and `TextLimit` a text of more than 67,108,864 bytes; the items before are reported. Other commands are `NotBuilt`, and words that
 /// give none are `BadWords`; nothing is read then. `ReadFault` and `WriteFault` come only where the count of faults of the source, or of
 /// `out`, rose in this call; `NoMemory` may come at any step of `poly`. At most 67,108,865 bytes are taken. Where the report is

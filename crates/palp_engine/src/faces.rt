@@ -1,15 +1,18 @@
 //! The faces of a polytope, and how many there are of each dimension.
 
-ghost use Rattle.std.specs.Prelude.{◌≡◌, ◌+◌, ◌≤◌, [], length, IsTrue, IfOk, IfErr, OnOk, MatchResult};
+ghost use Rattle.std.specs.Prelude.{◌≡◌, ◌+◌, ◌≤◌, [], IsTrue, IfOk, OnOk, MatchResult};
 ghost use Rattle.lattice_core.specs.Stops.{Stops};
 ghost use Rattle.face_theory.specs.Faces.{TightRelation};
 ghost use Rattle.face_theory.specs.Pairings.{valued};
 ghost use Rattle.face_poset.specs.Faces.{IsTableOf};
-ghost use Rattle.palp_engine.specs.Items.{HaveFewFaces};
-ghost use Rattle.palp_engine.specs.FaceSteps.{HasRowRoom, CanHaveFaces, IsHeldOf, IsFaceLimit, IsFaceStop};
+ghost use Rattle.dual_pair.specs.Faces.{on_facets};
+ghost use Rattle.dual_pair.specs.Pairs.{IsPair};
+ghost use Rattle.palp_engine.specs.FaceSteps.{HasRowRoom, CanHaveFaces, IsHeldOf, IsFaceLimit, IsFaceStop, HaveFewFaces, AreNumbersWhere};
 ghost use Rattle.lattice_core.specs.declared.limits.TheConstants.{MOST_FACETS, MOST_VERTICES};
 
+use batyrev::{HodgeLine, hodge};
 use bit_pool::{MOST_TURNS, RowPool};
+use dual_pair::DualPair;
 use face_poset::{BuildFault, FaceTable};
 use incidence::Incidence;
 use lattice_core::{
@@ -120,7 +123,7 @@ impl Faces {
     }
 
     /// How many faces have the ranks 1 to 6.
-    fn counts(&self) -> [u32; MOST_COORDINATES]
+    pub(crate) fn counts(&self) -> [u32; MOST_COORDINATES]
         ensures { (R : TightRelation) → IsTableOf R self.now → HaveFewFaces R 6 result }
     {
         let table = &self.table;
@@ -134,24 +137,34 @@ impl Faces {
         ]
     }
 
-    /// How many faces of dimension 0 to 5 the polytope with these facets and vertices has, where they are `asked`; more faces than the limit are
-    /// refused then.
-    pub(crate) fn counts_of(
+    /// Finds the faces of the polytope with these facets and vertices, where they are `asked`; more faces than the limit are refused then.
+    pub(crate) fn find_where(
         &mut self,
         alloc: Global,
         asked: bool,
         facets: &[Functional],
         vertices: &[Point],
-    ) -> Result<[u32; MOST_COORDINATES], Fault>
+    ) -> Result<(), Fault>
         requires { CanHaveFaces facets.now vertices.now }
-        ensures counts { IfOk result (λ counts. IsTrue asked → HaveFewFaces (valued vertices.now facets.now) 6 counts) }
-        ensures long { IfOk result (λ counts. length counts ≡ 6) }
-        ensures refused { IfErr result (Stops (IsFaceStop asked (valued vertices.now facets.now))) }
+        ensures { MatchResult result
+            (λ done. IsTrue asked → IsTableOf (valued vertices.now facets.now) self.new)
+            (Stops (IsFaceStop asked (valued vertices.now facets.now))) }
     {
         if !asked {
-            return Ok([0; MOST_COORDINATES]);
+            return Ok(());
         }
-        self.find(alloc, facets, vertices)?;
-        Ok(self.counts())
+        self.find(alloc, facets, vertices)
+    }
+
+    /// Batyrev's numbers of the pair of whose polytope these are the faces, where they are `asked`.
+    pub(crate) fn numbers_where(&self, asked: bool, pair: &DualPair) -> HodgeLine
+        requires pair { IsPair pair.now }
+        requires found { IsTrue asked → IsTableOf (on_facets pair.now.m) self.now }
+        ensures { AreNumbersWhere asked pair.now.m result }
+    {
+        if !asked {
+            return HodgeLine::None;
+        }
+        hodge(pair, &self.table)
     }
 }

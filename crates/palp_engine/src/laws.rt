@@ -1,9 +1,9 @@
 //! What a text says is said once.
 
-ghost use Rattle.palp_engine.specs.Laws.{OnePolytope, OneRefusal, PolytopeOrRefusal, OnePiece, OneItemRefusal, PieceOrRefusal, OneListOfEntries, OneList, OneReport, FrontsAreFronts, EmptyFront, OneEndedReport, EndedReportsAreFronts};
+ghost use Rattle.palp_engine.specs.Laws.{OnePolytope, OneRefusal, PolytopeOrRefusal, OnePiece, OneItemRefusal, PieceOrRefusal, PieceOrNone, NoneOrRefusal, OneListOfEntries, OneList, OneReport, FrontsAreFronts, EmptyFront, OneEndedReport, EndedReportsAreFronts, WayBack};
 
 /// A law, and no work: points have at most one list of lattice points, vertices and facets and, if there is a point, at most one refusal, and
-/// not both; so letters ask for at most one piece of an item, which has at most one refusal. A job
+/// not both; so letters ask for at most one piece of an item, or for none, and it has at most one refusal, and no two of these. A job
 /// reports on one list of entries of a text, and says of an entry one list of pieces, which ends in one way. So words and a text have at
 /// most one report, which ends with one outcome; and what is told as a front of their report is one, and nothing where the report is empty.
 /// What is to be reported where the source fails is one, too, and a front of the report of the bytes that passed. What `run` gives is fixed
@@ -15,6 +15,8 @@ pub fn answers_are_single()
     ensures piece { OnePiece }
     ensures item_refusal { OneItemRefusal }
     ensures item_apart { PieceOrRefusal }
+    ensures none_apart { PieceOrNone }
+    ensures none_refusal { NoneOrRefusal }
     ensures entries { OneListOfEntries }
     ensures pieces { OneList }
     ensures report { OneReport }
@@ -22,4 +24,10 @@ pub fn answers_are_single()
     ensures empty { EmptyFront }
     ensures ended { OneEndedReport }
     ensures ended_front { EndedReportsAreFronts }
+{}
+
+/// A law, and no work: the printed dual can be fed back. Of a reflexive item, the letters print what the same letters with `D` print of an item whose
+/// points have the dual for their polytope, as those of the block of facets have; but for the numbers of a weight line.
+pub fn dual_leads_back()
+    ensures { WayBack }
 {}

@@ -11,12 +11,13 @@ mod command;
 mod faces;
 mod laws;
 mod outcome;
+mod pieces;
 mod polytopes;
 mod session;
 #[cfg(test)]
 mod tests;
 
 pub use command::run;
-pub use laws::answers_are_single;
+pub use laws::{answers_are_single, dual_leads_back};
 pub use outcome::Outcome;
 pub use session::{ItemFault, Session, report_item};

@@ -6,7 +6,7 @@ ghost use Rattle.lattice_core.specs.Stops.{Stops};
 ghost use Rattle.lattice_core.specs.declared.limits.TheConstants.{MOST_POINTS};
 ghost use Rattle.item_points.specs.Points.{AreItemPoints};
 ghost use Rattle.palp_engine.specs.Reports.{IsRefused};
-ghost use Rattle.palp_engine.specs.RunSteps.{CountsLatticePoints, AreAllAndFew, ArePassed, IsLattice, IsPolytope};
+ghost use Rattle.palp_engine.specs.RunSteps.{CountsLatticePoints, AreAllAndFew, ArePassed, IsLattice, IsKept};
 
 use hull::{Hull, hull_of};
 use lattice_core::{Fault, Functional, LimitName, MOST_POINTS, NoMemory, Point, Refusal};
@@ -140,7 +140,7 @@ pub(crate) fn polytope_of(
     requires points { AreItemPoints points.items }
     requires complete { IsTrue complete → AreAllAndFew points.items }
     ensures { MatchResult result
-        (IsPolytope points.items listed)
+        (IsKept points.items listed)
         (Stops (IsRefused (dimension_of points.items) points.items)) }
 {
     let corners = corners_of(alloc, &points)?;

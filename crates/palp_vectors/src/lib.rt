@@ -6,6 +6,8 @@
 #[cfg(test)]
 mod blocks;
 #[cfg(test)]
+mod duals;
+#[cfg(test)]
 mod faces;
 #[cfg(test)]
 mod runs;

@@ -1,5 +1,5 @@
 use Rattle.palp_engine.proofs.SingleAnswers.{one_polytope, one_refusal, polytope_or_refusal}
-use Rattle.palp_engine.proofs.SingleItems.{one_piece, one_item_refusal, piece_or_refusal}
+use Rattle.palp_engine.proofs.SingleItems.{one_piece, one_item_refusal, piece_or_refusal, piece_or_none, none_or_refusal}
 use Rattle.palp_engine.proofs.SingleReports.{one_list_of_entries, one_list, one_report, fronts_are_fronts, empty_front}
 use Rattle.palp_engine.proofs.SingleEnded.{one_ended_report, ended_reports_are_fronts}
 use Rattle.palp_engine.proofs.laws.answers_are_single.Goals as goal
@@ -21,6 +21,12 @@ returns-clause-item_refusal c = one_item_refusal
 
 pub returns-clause-item_apart : goal.returns-clause-item_apart
 returns-clause-item_apart c = piece_or_refusal
+
+pub returns-clause-none_apart : goal.returns-clause-none_apart
+returns-clause-none_apart c = piece_or_none
+
+pub returns-clause-none_refusal : goal.returns-clause-none_refusal
+returns-clause-none_refusal c = none_or_refusal
 
 pub returns-clause-entries : goal.returns-clause-entries
 returns-clause-entries c = one_list_of_entries

@@ -11,5 +11,5 @@ lattice_of-requires-clause-passed c = rw (c.deref-2.ensures.value, c.deref-3.ens
 pub returns : goal.returns
 returns c =
     kept_polytope c.args.points.items c.in_ok-corners.corners.facets.items c.in_ok-corners.corners.vertices.items
-    (rw c.deref.ensures.value at c.in_ok-corners.ensures) c.requires.points.least c.requires.points.most c.requires.points.sized.are_points.some
-    c.args.listed c.in_ok-lattice.lattice c.in_ok-lattice.ensures _ refl refl refl refl
+    (rw c.deref.ensures.value at c.in_ok-corners.ensures) c.requires.points c.args.listed c.in_ok-lattice.lattice c.in_ok-lattice.ensures
+    _ refl refl refl refl
