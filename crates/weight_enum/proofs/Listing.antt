@@ -1,21 +1,22 @@
 -- Steps of the listing.
-use Rattle.std.proofs.Common.{◌≡◌, ◌⊎◌, inl, inr, ℕ, zero, suc, ◌+◌, ◌-◌, ◌<◌, ◌≤◌, List, []}
+use Rattle.std.proofs.Common.{◌≡◌, ◌⊎◌, inl, inr, ℕ, zero, suc, ◌+◌, ◌-◌, ◌*◌, ◌<◌, ◌≤◌, List, []}
 use Rattle.std.proofs.Common.{◌∷◌, ◌++◌, length, map, take, get_or, refl, sym, ap, ◌∙◌, subst, arith, length-append, take-take}
 use Rattle.std.specs.List.{Contains}
+use Rattle.std.proofs.Math.Nat.{le-div_iff_mul-le}
 use Rattle.std.proofs.lemmas.Bool.{cases_lt}
 use Rattle.std.proofs.lemmas.List.{append_assoc, append-nil, map-append}
 use Rattle.lattice_theory.specs.Order.{Lists}
 use Rattle.lattice_theory.proofs.Members.{empty, each_push, each_right, each_head, each_weaker, each_in, each_from_all}
 use Rattle.lattice_theory.proofs.Members.{all_from_each, In, in_append_left, in_append_right, in_append_cases, in_from_contains, contains_from_in}
 use Rattle.lattice_theory.proofs.Sublists.{ascends_append, ascends_map, in_map, from_map, IsImage}
-use Rattle.lattice_core.specs.Weights.{Weighted}
+use Rattle.lattice_core.specs.Weights.{Weighted, total}
 use Rattle.walk_theory.specs.Walks.{NumbersLess}
 use Rattle.walk_theory.proofs.Walks.{append_next, append_none, less_behind}
 use Rattle.interior_point_theory.specs.Beginnings.{MayFollow}
 use Rattle.interior_point_theory.specs.Interior.{SystemLess, IsInteriorPointSystem, system_of}
 use Rattle.interior_point_theory.proofs.Following.{weights_may_follow_lem, total-append}
 use Rattle.weight_enum.specs.Systems.{IsSystemOfDegree, AreSystemsOfDegree}
-use Rattle.weight_enum.specs.steps.Listing.{IsCompleted, AddsSystems, IsReady, IsFirst, IsMost}
+use Rattle.weight_enum.specs.steps.Listing.{IsCompleted, AddsSystems, IsReady, IsFirst, IsMost, most_behind}
 
 -- completed with a number below the bound behind the beginning
 pub record IsCompletedBelow (degree n : ℕ) (b : List ℕ) (bound : ℕ) (x : List ℕ) : Type 0 where
@@ -55,17 +56,36 @@ below_from_completed degree n place least rest most b x ready within is_most c =
 pub completed_from_below : (degree n bound : ℕ) (b x : List ℕ) → IsCompletedBelow degree n b bound x → IsCompleted degree n b x
 completed_from_below degree n bound b x c = record { rest = c.number ∷ c.rest; is = c.is; places = c.places; holds = c.holds }
 
+-- what stands behind a beginning takes at most so much
+behind_sum : (degree : ℕ) (b r : List ℕ) → 0 < length b → IsInteriorPointSystem (system_of degree (b ++ r)) → total r ≤ most_behind degree (length r)
+behind_sum degree b [] some is = omega arith
+behind_sum degree b (u ∷ r) some is =
+    let cut = (weights_may_follow_lem degree u b r is).cut (inl some) in
+    let positive : 0 < length r + 2 = omega arith in
+    let most = (le-div_iff_mul-le positive).1 (times (length r) u cut) in
+    let next = behind_sum degree (b ++ u ∷ []) r (let l = length-append b (u ∷ []) in omega (arith, l))
+    (subst (λ (x : List ℕ). IsInteriorPointSystem (system_of degree x)) (sym (append_next b u r)) is) in
+    omega (arith, most, next)
+  where
+    times : (k v : ℕ) → (suc k + 1) * v ≤ degree → v * (k + 2) ≤ degree
+    times k v h = omega (arith, h)
+
 -- none stands below the first number that is tried
-pub none_below_first : (degree n place least rest first : ℕ) (b x : List ℕ) → IsReady degree n b place least rest → IsFirst n place least rest first
-    → IsCompletedBelow degree n b first x → ⊥
+pub none_below_first : (degree n place least rest first : ℕ) (b x : List ℕ) → IsReady degree n b place least rest
+    → IsFirst degree n place least rest first → IsCompletedBelow degree n b first x → ⊥
 none_below_first degree n place least rest first b x ready is_first c =
     let f = follows degree n b c.number c.rest x c.is c.places c.holds in
     let columns = ready.columns in
     let leaves = ready.leaves in
     let length_is = f.1 in
     let low : least ≤ c.number = ready.is_least c.number (suc (length c.rest)) f.0 in
-    let last : place + 1 ≡ n → c.number ≡ rest = λ e. let whole = f.0.last (omega (arith, columns, length_is, e)) in omega (arith, whole, leaves) in
-    let above = is_first.is_first c.number low last in
+    let l = length-append b (c.number ∷ []) in
+    let holds = subst (λ (y : List ℕ). IsInteriorPointSystem (system_of degree y)) (c.is ∙ sym (append_next b c.number c.rest)) c.holds in
+    let behind = behind_sum degree (b ++ c.number ∷ []) c.rest (omega (arith, l)) holds in
+    let sum : total x ≡ degree = c.holds.sum in
+    let whole = ap total c.is in
+    let parts = total-append b (c.number ∷ c.rest) in
+    let above = is_first.is_first c.number (length c.rest) low (omega (arith, columns, length_is)) (omega (arith, behind, sum, whole, parts, leaves)) in
     let below = c.below in
     omega (arith, above, below)
 

@@ -1,17 +1,33 @@
 //! Which weights may follow others.
 ghost use Rattle.std.specs.Prelude.{◌≡◌, ◌↔◌, ◌<◌, ◌≤◌, IsTrue};
 ghost use Rattle.weight_enum.specs.declared.weights.TheConstants.{MOST_DEGREE_OF_FIVE};
-ghost use Rattle.weight_enum.specs.steps.Listing.{IsFirst, IsMost};
+ghost use Rattle.weight_enum.specs.steps.Listing.{IsFirst, IsMost, most_behind};
 
-/// The first weight that is tried at the place, of so many, where none below the least may stand.
-pub(crate) fn first_weight(count: usize, place: usize, least: u64, rest: u64) -> u64
-    requires { place < count }
-    ensures { IsFirst count place least rest result }
+/// As much as so many weights behind a beginning take at most.
+fn most_behind(degree: u64, further: usize) -> u64
+    requires few { further ≤ 5 }
+    requires degree { degree ≤ MOST_DEGREE_OF_FIVE }
+    ensures { result ≡ most_behind degree further }
 {
-    if place + 1 < count {
-        return least;
+    match further {
+        0 => 0,
+        1 => degree / 2,
+        2 => degree / 2 + degree / 3,
+        3 => degree / 2 + degree / 3 + degree / 4,
+        4 => degree / 2 + degree / 3 + degree / 4 + degree / 5,
+        _ => degree / 2 + degree / 3 + degree / 4 + degree / 5 + degree / 6,
     }
-    if rest > least { rest } else { least }
+}
+
+/// The first weight that is tried at the place, of so many, where none below the least may stand and `rest` is left of the degree.
+pub(crate) fn first_weight(count: usize, degree: u64, place: usize, least: u64, rest: u64) -> u64
+    requires place { place < count }
+    requires few { count ≤ 6 }
+    requires degree { degree ≤ MOST_DEGREE_OF_FIVE }
+    ensures { IsFirst degree count place least rest result }
+{
+    let low = rest.saturating_sub(most_behind(degree, count - place - 1));
+    if low > least { low } else { least }
 }
 
 /// Whether the place is the first of all, and the degree is the number of weights.

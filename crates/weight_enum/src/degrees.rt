@@ -106,7 +106,7 @@ fn add_systems(
     if place == weights.len() {
         return add_if_system(alloc, weights, degree, levels, found);
     }
-    let first = first_weight(weights.len(), place, least, rest);
+    let first = first_weight(weights.len(), degree, place, least, rest);
     let most = most_weight(weights.len(), degree, place, rest);
     for weight in first..most + 1 {
         weights[place] = weight;

@@ -64,15 +64,15 @@ fn wide_quotient(a: i128, divisor: i64) -> i128 {
     a.wrapping_div(i128::from(divisor))
 }
 
-/// The sum of the points' entries at the place.
-fn entry_sum(points: &[Point], j: usize) -> i64 {
-    let mut sum = 0_i64;
+/// The sums of the points' entries.
+fn entry_sums(points: &[Point]) -> [i64; MOST_COORDINATES] {
+    let mut sums = [0_i64; MOST_COORDINATES];
     for point in points {
-        if let Some(a) = point.entries().get(j) {
-            sum = sum.wrapping_add(*a);
+        for (sum, a) in sums.iter_mut().zip(point.entries()) {
+            *sum = sum.wrapping_add(*a);
         }
     }
-    sum
+    sums
 }
 
 /// The row of a unit vector, or of its opposite, that is taken so many times.
@@ -167,9 +167,10 @@ impl Basis {
     pub(crate) fn new(points: &[Point], n: usize) -> Basis
         requires { n ≤ 6 }
     {
+        let sums = entry_sums(points);
         let mut rows = ArrayVec::new();
         for j in 0..n {
-            rows.push(first_row(j, entry_sum(points, j).wrapping_neg()));
+            rows.push(first_row(j, sums[j].wrapping_neg()));
         }
         Basis { rows, divisor: 1 }
     }

@@ -1,5 +1,5 @@
 -- The listing of the systems of a degree. This project's own.
-use Rattle.std.specs.Prelude.{◌≡◌, ℕ, ◌+◌, ◌<◌, ◌≤◌, List, ◌++◌, length, map, take}
+use Rattle.std.specs.Prelude.{◌≡◌, ℕ, zero, suc, ◌+◌, ◌/◌, ◌<◌, ◌≤◌, List, ◌++◌, length, map, take}
 use Rattle.std.specs.List.{All}
 use Rattle.lattice_theory.specs.Order.{Lists}
 use Rattle.lattice_core.specs.Weights.{Weighted, total}
@@ -30,11 +30,17 @@ pub record IsReady (degree n : ℕ) (b : List ℕ) (place least rest : ℕ) : Ty
   pub leaves : total b + rest ≡ degree
   pub whole : place ≡ n → rest ≡ 0
 
--- the first weight that is tried behind a beginning of so many weights: at least the least, and the last weight takes all of the rest
-pub record IsFirst (n place least rest first : ℕ) : Type 0 where
+-- as much as so many weights behind a beginning take at most: the last of them at most half the degree, the one before it a third, and so on
+abbrev pub most_behind : ℕ → ℕ → ℕ
+most_behind degree zero = 0
+most_behind degree (suc k) = degree / (k + 2) + most_behind degree k
+
+-- the first weight that is tried behind a beginning of so many weights: at least the least, so much that those behind it can take the rest, and
+-- all of the rest where it is the last
+pub record IsFirst (degree n place least rest first : ℕ) : Type 0 where
   pub above : least ≤ first
   pub takes : place + 1 ≡ n → rest ≤ first
-  pub is_first : (v : ℕ) → least ≤ v → (place + 1 ≡ n → v ≡ rest) → first ≤ v
+  pub is_first : (v k : ℕ) → least ≤ v → place + suc k ≡ n → rest ≤ v + most_behind degree k → first ≤ v
 
 -- no weight above the most may follow a beginning of so many weights that leaves the rest
 abbrev pub IsMost : ℕ → ℕ → ℕ → ℕ → ℕ → Type 0
