@@ -1,13 +1,12 @@
 -- How the faces of a polytope are found: the rows tell the relation, none of them is lacking, and the table counts the faces.
-use Rattle.std.specs.Prelude.{ℤ, pos, None, Some, ⊤}
-use Rattle.std.proofs.Common.{◌≡◌, ◌⊎◌, inl, inr, ℕ, zero, suc, ◌+◌, ◌-◌, ◌<◌, ◌≤◌, List, [], ◌∷◌, length, get_or, sym, ◌∙◌, subst, arith}
+use Rattle.std.specs.Prelude.{ℤ, pos, Some, ⊤}
+use Rattle.std.proofs.Common.{◌≡◌, ◌⊎◌, inl, inr, ℕ, zero, suc, ◌+◌, ◌-◌, ◌<◌, ◌≤◌, List, [], length, get_or, sym, ◌∙◌, subst, arith}
 use Rattle.std.proofs.lemmas.Bool.{cases_lt}
 use Rattle.lattice_theory.specs.Affine.{Affine}
 use Rattle.bit_pool.specs.Pools.{PoolState, OnRow, row_of}
 use Rattle.bit_pool.specs.declared.faults.Stale.{Stale}
 use Rattle.face_theory.specs.Faces.{TightRelation}
 use Rattle.face_theory.specs.Pairings.{valued}
-use Rattle.face_closing.specs.Tables.{HasMoreFaces}
 use Rattle.incidence.specs.Incidences.{IncidenceState, Tells, IsToldIn, HaveValues}
 use Rattle.incidence.proofs.Held.{made_is_held_lem}
 use Rattle.face_poset.specs.Faces.{FaceState, TableState, IsTableOf}

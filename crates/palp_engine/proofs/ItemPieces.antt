@@ -3,7 +3,7 @@ use Rattle.std.specs.Prelude.{ℤ, Bool, true, false, ◌&&◌, ◌||◌, not, I
 use Rattle.std.specs.Bool.{Decides}
 use Rattle.std.specs.List.{All}
 use Rattle.std.specs.Ordering.{int_eq}
-use Rattle.std.proofs.Common.{◌≡◌, ℕ, ◌≤◌, List, [], ◌∷◌, ◌++◌, length, refl, sym, ◌∙◌, ap, subst, inl, inr, rules, ◌+◌, ◌⊎◌, take, arith}
+use Rattle.std.proofs.Common.{◌≡◌, ℕ, ◌≤◌, List, [], ◌++◌, length, refl, sym, ◌∙◌, ap, subst, inl, inr, rules, ◌+◌, ◌⊎◌, take, arith}
 use Rattle.std.proofs.lemmas.Bool.Decides.{Decides-int_eq, Decides-by_and}
 use Rattle.std.proofs.lemmas.List.{length-take-le, get_or-take}
 use Rattle.lattice_theory.specs.Affine.{Affine}
@@ -17,7 +17,6 @@ use Rattle.lattice_core.specs.declared.faults.Fault.TheVariants as faults
 use Rattle.lattice_core.specs.declared.faults.LimitName.{LimitName}
 use Rattle.face_theory.specs.Faces.{TightRelation}
 use Rattle.face_theory.specs.Pairings.{valued}
-use Rattle.face_closing.specs.Tables.{HasMoreFaces}
 use Rattle.face_poset.specs.Counts.{IsFaceCount}
 use Rattle.face_poset.specs.Faces.{TableState, IsTableOf}
 use Rattle.palp_words.specs.declared.job.PolyFlags.{PolyFlags}

@@ -1,7 +1,6 @@
 -- What is printed of a polytope is one thing, and it has one refusal of its dual, or none.
 use Rattle.std.specs.Prelude.{IsTrue}
-use Rattle.std.proofs.Common.{◌≡◌, ℕ, ◌<◌, ◌≤◌, Bool, true, false, ℤ, refl, sym, ap, ◌∙◌, subst, arith}
-use Rattle.lattice_theory.specs.Order.{LexLess}
+use Rattle.std.proofs.Common.{◌≡◌, ℕ, ◌<◌, ◌≤◌, Bool, true, false, refl, sym, ap, ◌∙◌, subst, arith}
 use Rattle.lattice_theory.specs.Size.{size}
 use Rattle.lattice_core.specs.Dimensions.{dimension_of}
 use Rattle.lattice_core.specs.Limits.{size_limit_of}

@@ -7,7 +7,6 @@ use Rattle.lattice_core.specs.declared.faults.Refusal.TheVariants.{Flat, Limit}
 use Rattle.lattice_core.specs.declared.faults.LimitName.TheVariants.{Faces}
 use Rattle.bit_pool.specs.Pools.{PoolState}
 use Rattle.face_theory.specs.Faces.{TightRelation}
-use Rattle.face_theory.specs.Pairings.{valued}
 use Rattle.face_closing.specs.Tables.{HasMoreFaces}
 use Rattle.face_closing.specs.declared.limits.TheConstants.{MOST_FACES}
 use Rattle.incidence.specs.Incidences.{IncidenceState, IsHeld, Tells}
