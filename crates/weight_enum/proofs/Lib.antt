@@ -6,7 +6,7 @@ mod Cutting
 mod Listing
 mod Places
 mod Fronts
-mod FirstSystems
+pub mod FirstSystems
 mod TwiceTaken
 mod LevelBeginnings
 pub mod Refuting

@@ -1,0 +1,10 @@
+pub mod Deciding
+pub mod Ranges
+pub mod Counts
+pub mod Fronts
+pub mod Reporting
+pub mod SystemPolytopes
+pub mod SystemLines
+pub mod CwsLoops
+pub mod SweepLoops
+pub mod Single

@@ -1,0 +1,7 @@
+pub mod Systems
+pub mod Entries
+pub mod Lists
+pub mod Sweeps
+pub mod Answers
+pub mod Steps
+pub mod Laws
