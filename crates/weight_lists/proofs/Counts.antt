@@ -1,12 +1,11 @@
 -- The systems of a range are few: each is told by its degree and all its weights but the last.
-use Rattle.std.proofs.Common.{◌≡◌, ◌⊎◌, inl, inr, ℕ, zero, suc, ◌+◌, ◌*◌, ◌^◌, ◌<◌, ◌≤◌, List, [], ◌∷◌, length, map, pos, ◌<ℤ◌, refl, sym, ap, ◌∙◌, subst, arith}
+use Rattle.std.proofs.Common.{◌≡◌, ◌⊎◌, inl, inr, ℕ, ◌+◌, ◌*◌, ◌^◌, ◌<◌, ◌≤◌, List, [], ◌∷◌, length, map, pos, ◌<ℤ◌, refl, sym, ap, ◌∙◌, subst, arith}
 use Rattle.std.proofs.lemmas.Bool.{cases_eq, cases_lt}
 use Rattle.lattice_theory.specs.Order.{Ascends, LexLess}
 use Rattle.lattice_theory.proofs.Integers.{linear}
-use Rattle.lattice_theory.proofs.Members.{Each, empty, more, each_head, each_tail, each_in, each_weaker, each_from_in, each_from_all, In, here, there, contains_from_in}
+use Rattle.lattice_theory.proofs.Members.{Each, empty, more, each_head, each_tail, each_in, each_weaker, each_from_in, each_from_all, contains_from_in}
 use Rattle.lattice_core.specs.Weights.{Weighted, total}
 use Rattle.interior_point_theory.specs.Interior.{SystemLess, IsSystemOfRange, AreSystemsOfRange}
-use Rattle.weight_lists.specs.Answers.{IsRange}
 use Rattle.weight_lists.specs.Laws.{RangesAreFew}
 
 -- a number for each list of numbers below b, of which the last one isn't told, and how many such numbers there are

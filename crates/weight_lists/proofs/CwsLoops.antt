@@ -1,12 +1,12 @@
 -- What the loop of `cws` keeps.
-use Rattle.std.proofs.Common.{◌≡◌, ℕ, ◌+◌, ◌-◌, ◌<◌, ◌≤◌, ◌^◌, Bool, List, [], ◌∷◌, ◌++◌, length, Option, Some, None, Result, Ok, Err, refl, sym, subst, arith}
+use Rattle.std.proofs.Common.{◌≡◌, ℕ, ◌+◌, ◌<◌, ◌≤◌, ◌^◌, Bool, List, [], ◌∷◌, ◌++◌, Some, None, Result, Ok, Err, refl, sym, subst, arith}
 use Rattle.lattice_core.specs.Weights.{Weighted, weighted}
 use Rattle.lattice_core.specs.declared.weights.WeightSystem.{WeightSystem}
 use Rattle.palp_io.specs.Sink.{SinkState}
 use Rattle.palp_print.specs.Lists.{closing}
 use Rattle.interior_point_theory.specs.Interior.{IsInteriorPointSystem}
 use Rattle.weight_enum.specs.Searched.{Searched, GivesSystem}
-use Rattle.weight_lists.specs.Lists.{IsMark, CountsListed, LineSays, IsCountLine, CwsSays, title_of}
+use Rattle.weight_lists.specs.Lists.{CountsListed, LineSays, IsCountLine, CwsSays, title_of}
 use Rattle.weight_lists.specs.Answers.{IsRange, Reports}
 use Rattle.weight_lists.specs.Steps.{LineMeans, SystemMeans}
 use Rattle.weight_lists.specs.declared.fault.ListFault.{ListFault}

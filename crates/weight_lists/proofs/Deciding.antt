@@ -1,7 +1,6 @@
 -- Whether weights are an interior-point system can be told: their tails are listed, and whether these are flat and which facets they have.
-use Rattle.std.proofs.Common.{◌≡◌, ◌⊎◌, inl, inr, ℕ, zero, suc, ◌+◌, ◌<◌, ◌≤◌, List, [], ◌∷◌, length, map, ℤ, pos, negsuc, ◌+ℤ◌, ◌<ℤ◌, All, get_or, refl, sym, ap, ◌∙◌, subst, arith}
+use Rattle.std.proofs.Common.{◌≡◌, ◌⊎◌, inl, inr, ℕ, zero, suc, ◌+◌, ◌<◌, ◌≤◌, List, [], ◌∷◌, length, map, ℤ, pos, negsuc, ◌+ℤ◌, ◌<ℤ◌, All, refl, sym, ap, ◌∙◌, subst, arith}
 use Rattle.std.specs.Prelude.{slice_index_or}
-use Rattle.std.specs.List.{Contains}
 use Rattle.std.proofs.lemmas.Bool.{cases_eq}
 use Rattle.lattice_theory.specs.Vector.{entry, dot, EndsAt, HaveDimension, IsPrimitive}
 use Rattle.lattice_theory.specs.Affine.{Affine, value}
@@ -14,11 +13,10 @@ use Rattle.lattice_theory.proofs.Vectors.{unit, length-unit, entry-unit_same, ze
 use Rattle.elimination.specs.Elimination.{Member, IsKernel, ArePivots}
 use Rattle.elimination.proofs.KernelLaws.{kernel_exists_lem}
 use Rattle.elimination.proofs.KernelSize.{empty_kernel_lem}
-use Rattle.facet_theory.specs.Solid.{AreSolid}
 use Rattle.facet_theory.proofs.Values.{dot-zero}
 use Rattle.facet_theory.proofs.Lifted.{vector_of, lifted, in_lifted, from_lifted, lifted_value, lifted_dimension}
 use Rattle.facet_theory.proofs.Listed.{facets_are_listed_lem}
-use Rattle.lattice_core.specs.Weights.{Weighted, IsMonomial, IsSummed, HasWeightAt, AreWellFormed, monomial_point, total}
+use Rattle.lattice_core.specs.Weights.{Weighted, IsMonomial, IsSummed, AreWellFormed, monomial_point, total}
 use Rattle.weight_points.specs.Members.{AreMonomials}
 use Rattle.weight_points.specs.Listing.{solutions}
 use Rattle.weight_points.proofs.Solutions.{are_monomials}

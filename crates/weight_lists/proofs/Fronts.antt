@@ -1,9 +1,8 @@
 -- The first systems of a range stand at the front of its list.
-use Rattle.std.proofs.Common.{◌≡◌, ◌⊎◌, inl, inr, ℕ, ◌+◌, ◌<◌, ◌≤◌, ◌^◌, List, [], ◌∷◌, ◌++◌, length, map, refl, sym, ap, ◌∙◌, subst, arith, append_assoc, length-append}
+use Rattle.std.proofs.Common.{◌≡◌, ◌⊎◌, inl, inr, ℕ, ◌+◌, ◌<◌, ◌^◌, List, [], ◌∷◌, ◌++◌, length, map, refl, sym, ap, ◌∙◌, subst, arith, append_assoc, length-append}
 use Rattle.std.proofs.lemmas.List.{map-append}
-use Rattle.std.specs.List.{Contains}
 use Rattle.lattice_theory.specs.Order.{Ascends}
-use Rattle.lattice_theory.proofs.Members.{In, here, there, Each, each_in, each_from_all, in_from_contains, contains_from_in}
+use Rattle.lattice_theory.proofs.Members.{In, here, there, each_in, each_from_all, in_from_contains, contains_from_in}
 use Rattle.lattice_core.specs.Weights.{Weighted}
 use Rattle.interior_point_theory.specs.Interior.{SystemLess, IsSystemOfRange, AreSystemsOfRange}
 use Rattle.interior_point_theory.proofs.Degrees.{system_asymmetric}

@@ -1,17 +1,16 @@
 -- A range has the list of its systems.
-use Rattle.std.proofs.Common.{◌≡◌, ◌⊎◌, inl, inr, ℕ, zero, suc, ◌+◌, ◌*◌, ◌-◌, ◌<◌, ◌≤◌, Bool, true, false, List, [], ◌∷◌, ◌++◌, length, map, pos, refl, sym, ap, ◌∙◌, subst, arith}
+use Rattle.std.proofs.Common.{◌≡◌, ◌⊎◌, inl, inr, ℕ, zero, suc, ◌+◌, ◌*◌, ◌-◌, ◌<◌, ◌≤◌, Bool, true, false, List, [], ◌∷◌, length, refl, subst, arith}
 use Rattle.std.specs.Prelude.{◌↔◌, max}
-use Rattle.lattice_theory.specs.Order.{Ascends, Lists}
+use Rattle.lattice_theory.specs.Order.{Lists}
 use Rattle.lattice_theory.proofs.Members.{In, here, there, Each, empty, more, each_push, each_in, each_weaker, each_from_all, all_from_each}
 use Rattle.lattice_theory.proofs.Sublists.{ascends_append}
 use Rattle.std.proofs.lemmas.Bool.{cases_eq, cases_lt}
-use Rattle.walk_theory.specs.Walks.{NumbersLess, Guide, walk, IsTried, IsSought}
+use Rattle.walk_theory.specs.Walks.{NumbersLess, Guide, walk, IsSought}
 use Rattle.lattice_core.specs.Weights.{Weighted}
 use Rattle.interior_point_theory.specs.Interior.{IsInteriorPointSystem, AreSystemsOfRange, system_of}
-use Rattle.interior_point_theory.specs.Beginnings.{IsBeginning, MayFollow, IsWeightGuide, by_degrees}
+use Rattle.interior_point_theory.specs.Beginnings.{IsBeginning, IsWeightGuide}
 use Rattle.interior_point_theory.proofs.WeightWalks.{weight_walk_lem}
 use Rattle.interior_point_theory.proofs.Degrees.{systems_by_degrees_lem}
-use Rattle.weight_lists.specs.Answers.{IsRange}
 use Rattle.weight_lists.specs.Laws.{RangesAreListed}
 use Rattle.weight_lists.proofs.Deciding.{Decided, decide_system}
 
@@ -45,15 +44,15 @@ decide_beginning (w ∷ x) = by (cases_lt 0 w) (decide_all x) (decide_beginning 
     decide_all (y ∷ ys) = of (cases_lt y w) (decide_all ys)
       where
         of : (y < w) ⊎ (w ≤ y) → Decided (Each (λ v. w ≤ v) ys) → Decided (Each (λ v. w ≤ v) (y ∷ ys))
-        of (inl l) d = inr (λ e. elim e [ | more h r ↦ omega (arith, l, h) ])
+        of (inl l) d = inr (λ e. elim e [ more h r ↦ omega (arith, l, h) ])
         of (inr l) (inl r) = inl (more l r)
-        of (inr l) (inr none) = inr (λ e. elim e [ | more h r ↦ none r ])
+        of (inr l) (inr none) = inr (λ e. elim e [ more h r ↦ none r ])
 
     by : (0 < w) ⊎ (w ≤ 0) → Decided (Each (λ v. w ≤ v) x) → Decided (IsBeginning x) → Decided (IsBeginning (w ∷ x))
-    by (inr z) d b = inr (λ h. elim (each_from_all (λ v. 1 ≤ v) (w ∷ x) h.positive) [ | more p r ↦ omega (arith, z, p) ])
+    by (inr z) d b = inr (λ h. elim (each_from_all (λ v. 1 ≤ v) (w ∷ x) h.positive) [ more p r ↦ omega (arith, z, p) ])
     by (inl p) (inr none) b = inr (λ h. none (each_from_all (λ v. w ≤ v) x h.ascends.0))
     by (inl p) (inl d) (inr none) = inr (λ h. elim (each_from_all (λ v. 1 ≤ v) (w ∷ x) h.positive)
-        [ | more q r ↦ none (record { positive = all_from_each {P = λ v. 1 ≤ v} r; ascends = h.ascends.1 }) ])
+        [ more q r ↦ none (record { positive = all_from_each {P = λ v. 1 ≤ v} r; ascends = h.ascends.1 }) ])
     by (inl p) (inl d) (inl b) = inl (record {
       positive = all_from_each {P = λ v. 1 ≤ v} (more p (each_from_all (λ v. 1 ≤ v) x b.positive));
       ascends = (all_from_each d, b.ascends);

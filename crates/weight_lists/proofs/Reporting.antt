@@ -1,19 +1,19 @@
 -- Reporting the systems of a range, one after another.
-use Rattle.std.proofs.Common.{◌≡◌, ℕ, ◌+◌, ◌<◌, ◌≤◌, ◌^◌, List, [], ◌∷◌, ◌++◌, length, map, Option, Some, None, Result, Ok, Err, refl, sym, ap, ◌∙◌, subst, arith, append_assoc}
-use Rattle.std.proofs.lemmas.List.{append-nil, map-append, length-map}
+use Rattle.std.proofs.Common.{◌≡◌, ℕ, ◌+◌, ◌<◌, ◌≤◌, ◌^◌, List, [], ◌∷◌, ◌++◌, length, map, Some, None, Result, Ok, Err, sym, ap, ◌∙◌, subst, append_assoc}
+use Rattle.std.proofs.lemmas.List.{map-append, length-map}
 use Rattle.lattice_core.specs.Weights.{Weighted, weighted}
 use Rattle.lattice_core.specs.declared.faults.Refusal.{Refusal}
 use Rattle.lattice_core.specs.declared.weights.WeightSystem.{WeightSystem}
 use Rattle.palp_io.specs.Sink.{SinkState}
 use Rattle.palp_io.specs.Faults.{Rose}
 use Rattle.palp_io.proofs.FaultLemmas.{Rose-late}
-use Rattle.report_theory.specs.Report.{Whole, Ends, Step, Piece, Stop, stop_at}
+use Rattle.report_theory.specs.Report.{Whole, Ends, Step, stop_at}
 use Rattle.report_theory.specs.Giving.{GivesItem, GivesReport, GivesFront}
 use Rattle.report_theory.proofs.Givings.{ReportedSoFar, reported_nothing, reported_item, reported_end, reported_part, reported_front, reported_all, item_nothing, item_piece, item_closed, item_part}
 use Rattle.interior_point_theory.specs.Interior.{IsInteriorPointSystem, AreSystemsOfRange}
 use Rattle.weight_enum.specs.Searched.{Searched, GivesSystem, IsSystemAt, HasSystems, AreFirstSystems}
 use Rattle.weight_enum.proofs.FirstSystems.{no_systems_are_first_lem, first_and_next_lem, first_are_all_lem}
-use Rattle.weight_lists.specs.Entries.{ListEntry, System, EndOf, entries_of, AreListEntries, ListSays, summary, ended}
+use Rattle.weight_lists.specs.Entries.{ListEntry, System, EndOf, entries_of, ListSays, summary, ended}
 use Rattle.weight_lists.specs.Answers.{IsRange, ReportMeans, Reports}
 use Rattle.weight_lists.specs.Steps.{LineAnswer, LineMeans}
 use Rattle.weight_lists.specs.declared.fault.ListFault.{ListFault}

@@ -1,5 +1,5 @@
 -- What is said of an entry is said once, and a range has one list of entries.
-use Rattle.std.proofs.Common.{◌≡◌, ◌⊎◌, inl, inr, ℕ, ◌+◌, ◌<◌, ◌≤◌, true, false, Bool, List, [], ◌∷◌, length, map, ℤ, refl, sym, ap, ◌∙◌, subst, arith}
+use Rattle.std.proofs.Common.{◌≡◌, inl, inr, ℕ, ◌<◌, ◌≤◌, true, false, Bool, List, [], ◌∷◌, length, map, ℤ, refl, sym, ap, ◌∙◌, subst, arith}
 use Rattle.std.specs.List.{AllZip}
 use Rattle.lattice_theory.specs.Order.{LexLess, FunctionLess}
 use Rattle.lattice_theory.specs.Facet.{IsFlat, IsFlatFunction}
@@ -10,26 +10,24 @@ use Rattle.lattice_theory.proofs.Members.{In, here, contains_from_in}
 use Rattle.lattice_theory.specs.Size.{size}
 use Rattle.lattice_theory.specs.Affine.{Affine}
 use Rattle.lattice_core.specs.Dimensions.{dimension_of}
-use Rattle.lattice_core.specs.Limits.{IsSized}
 use Rattle.lattice_core.specs.Weights.{Weighted, total}
 use Rattle.lattice_core.specs.declared.faults.Refusal.{Refusal}
 use Rattle.lattice_core.specs.declared.faults.Refusal.TheVariants.{Flat, Limit}
 use Rattle.lattice_core.specs.declared.faults.LimitName.TheVariants.{Size, Facets, Vertices, DualSize, DualPoints}
-use Rattle.report_theory.specs.Report.{Whole, Ends, Step, Piece, Close, SaysOne}
-use Rattle.item_points.specs.Points.{HasPoints, IsPointsRefusal, AreItemPoints}
+use Rattle.report_theory.specs.Report.{Ends, Step, Piece, Close}
+use Rattle.item_points.specs.Points.{HasPoints}
 use Rattle.item_points.proofs.SingleItems.{one_list_of_points, one_points_refusal, points_or_refusal, points_are_item_points}
 use Rattle.hull.specs.Faults.{HaveFewFacets, HasManyFacets, HasManyVertices, IsPolytopeRefusal}
 use Rattle.dual_pair.specs.Polytopes.{PolytopeState, IsPolytopeOf}
 use Rattle.dual_pair.specs.Pairs.{PairState, IsPair, exchanged, IsReflexivePolytope, HasNoDual}
 use Rattle.dual_pair.proofs.VertexLists.{polytopes_are_single_lem}
 use Rattle.dual_pair.proofs.PairLaws.{pairs_are_single_lem, exchanged_pairs_lem, no_limit_on_the_way_back_lem}
-use Rattle.interior_point_theory.specs.Interior.{AreSystemsOfRange}
 use Rattle.interior_point_theory.proofs.Degrees.{systems_are_single_lem}
 use Rattle.palp_print.specs.Lists.{closing, sweep_line}
-use Rattle.weight_lists.specs.Systems.{line_of, HasPolytope, HasNoHull, HasNoPolytope, IsReflexiveSystem, IsOtherSystem, HasPair, HasLargeDual}
-use Rattle.weight_lists.specs.Entries.{ListEntry, System, EndOf, entries_of, EndSays, summary, ended, ListSays}
-use Rattle.weight_lists.specs.Lists.{IsListed, IsLeftOut, IsRefused, LineSays, line, behind_line, left_out, refused, IsMark, CountsListed, IsCountLine, title_of, CwsSays}
-use Rattle.weight_lists.specs.Sweeps.{SystemNumbers, IsReflexiveNumbers, IsOtherNumbers, AreNumbers, IsSweepRefused, SilentSays, silent, refused as swept_refused, AreSums, IsSweepLine, SweepSays}
+use Rattle.weight_lists.specs.Systems.{line_of, HasPolytope, HasNoPolytope, HasPair}
+use Rattle.weight_lists.specs.Entries.{System, EndOf, entries_of, EndSays, summary, ended}
+use Rattle.weight_lists.specs.Lists.{IsListed, IsLeftOut, IsRefused, LineSays, line, behind_line, left_out, refused, IsMark, IsCountLine, title_of}
+use Rattle.weight_lists.specs.Sweeps.{SystemNumbers, AreNumbers, IsSweepRefused, SilentSays, silent, refused as swept_refused, IsSweepLine}
 use Rattle.weight_lists.specs.Laws.{OneListOfEntries, OneCwsStep, OneSweepStep}
 
 pub one_list_of_entries_lem : OneListOfEntries

@@ -1,5 +1,5 @@
 -- What the loop of `sweep` keeps.
-use Rattle.std.proofs.Common.{◌≡◌, ◌⊎◌, inl, inr, ℕ, ◌+◌, ◌*◌, ◌-◌, ◌<◌, ◌≤◌, ◌^◌, List, [], ◌∷◌, ◌++◌, length, map, Option, Some, None, Result, Ok, Err, refl, sym, ap, ◌∙◌, subst, arith}
+use Rattle.std.proofs.Common.{◌≡◌, inl, inr, ℕ, ◌+◌, ◌*◌, ◌<◌, ◌≤◌, ◌^◌, List, [], ◌∷◌, ◌++◌, length, map, Some, None, Result, Err, refl, sym, ap, subst, arith}
 use Rattle.std.proofs.lemmas.List.{map-append}
 use Rattle.std.specs.List.{AllZip}
 use Rattle.lattice_core.specs.Stops.{Stops}
@@ -10,7 +10,6 @@ use Rattle.lattice_core.specs.declared.weights.WeightSystem.{WeightSystem}
 use Rattle.palp_io.specs.Sink.{SinkState}
 use Rattle.palp_print.specs.Lists.{sweep_line}
 use Rattle.report_theory.specs.Report.{Whole, Ends}
-use Rattle.report_theory.specs.Giving.{GivesItem}
 use Rattle.report_theory.proofs.Givings.{item_nothing, item_closed}
 use Rattle.interior_point_theory.specs.Interior.{IsInteriorPointSystem}
 use Rattle.interior_point_theory.proofs.Following.{total-append}

@@ -1,5 +1,5 @@
 -- Giving the line of a system, and counting the systems that are listed.
-use Rattle.std.proofs.Common.{◌≡◌, ◌⊎◌, inl, inr, ℕ, ◌+◌, ◌<◌, ◌≤◌, ◌^◌, Bool, List, [], ◌∷◌, ◌++◌, length, Result, Ok, Err, refl, sym, ap, ◌∙◌, subst, arith}
+use Rattle.std.proofs.Common.{◌≡◌, inl, inr, ℕ, ◌+◌, ◌≤◌, Bool, List, [], ◌∷◌, ◌++◌, length, Result, Ok, Err, refl, sym, ap, ◌∙◌, subst, arith}
 use Rattle.std.specs.List.{AllZip}
 use Rattle.lattice_core.specs.Stops.{Stops}
 use Rattle.lattice_core.specs.Weights.{Weighted, total, weighted}
@@ -19,7 +19,7 @@ use Rattle.weight_lists.specs.Answers.{Reports}
 use Rattle.weight_lists.specs.Steps.{LineAnswer, LineMeans, IsStopped, SystemMeans}
 use Rattle.weight_lists.specs.declared.fault.ListFault.{ListFault}
 use Rattle.weight_lists.specs.declared.fault.ListFault.TheVariants as faults
-use Rattle.weight_lists.proofs.Reporting.{ListedSoFar, listed_more, listed_stop, listed_write, listed_part}
+use Rattle.weight_lists.proofs.Reporting.{ListedSoFar, listed_stop, listed_write, listed_part}
 
 module _ (only : Bool) (number : ℕ) (system : Weighted) (out : SinkState) where
   abbrev entry : ListEntry
@@ -53,8 +53,11 @@ module _ (only : Bool) (number : ℕ) (system : Weighted) (out : SinkState) wher
     failed : (fault : ListFault) → out.faults ≤ last.faults → LineAnswer (weights_line system) out last (Err fault)
         → SystemMeans only number system out last (Err fault)
     failed (faults.Refused n cause) later a = absurd a
-    failed faults.Write later a = (a.rose, item_part (CwsSays only) out out entry 0 (item_nothing (CwsSays only) out entry) (weights_line system)
-        last (line listed) a.part later)
+    failed faults.Write later a = (
+      a.rose,
+      item_part (CwsSays only) out out entry 0 (item_nothing (CwsSays only) out entry) (weights_line system)
+          last (line listed) a.part later,
+    )
     failed faults.NoMemory later a = subst (λ (s : SinkState). SystemMeans only number system out s (Err faults.NoMemory)) (sym a) no_line
 
     pub failed_item : (fault : ListFault) → LineMeans (weights_line system) out last (Err fault)

@@ -1,26 +1,25 @@
 -- The polytope of a system, or why it has none.
-use Rattle.std.proofs.Common.{◌≡◌, ◌⊎◌, inl, inr, ℕ, ◌<◌, ◌≤◌, true, false, Bool, List, [], ◌∷◌, length, map, ℤ, pos, All, refl, sym, ap, ◌∙◌, subst, arith, rules}
+use Rattle.std.proofs.Common.{◌≡◌, inr, ℕ, ◌<◌, ◌≤◌, true, false, Bool, List, [], ◌∷◌, length, map, ℤ, pos, All, refl, sym, ap, subst, arith, rules}
 use Rattle.std.specs.Prelude.{◌↔◌, IsTrue}
 use Rattle.lattice_theory.specs.Order.{LexLess}
 use Rattle.lattice_theory.proofs.Orders.{lex_asymmetric}
 use Rattle.lattice_theory.proofs.Unique.{lists_unique}
 use Rattle.lattice_core.specs.Dimensions.{dimension_of}
 use Rattle.lattice_core.specs.Stops.{Stops}
-use Rattle.lattice_core.specs.Weights.{Weighted, IsSummed, AreWellFormed, total}
+use Rattle.lattice_core.specs.Weights.{Weighted, AreWellFormed, total}
 use Rattle.lattice_core.specs.declared.faults.Fault.{Fault}
 use Rattle.lattice_core.specs.declared.faults.Fault.TheVariants as stops
 use Rattle.lattice_core.specs.declared.faults.Refusal.TheVariants.{Flat, Limit}
 use Rattle.lattice_core.specs.declared.faults.LimitName.TheVariants.{Size, Facets, Vertices, Points}
 use Rattle.lattice_theory.specs.Vector.{DividesInteger}
 use Rattle.lattice_theory.proofs.Members.{Each, empty, more, each_from_all, all_from_each}
-use Rattle.palp_input.specs.Grammar.{ListedWeights}
 use Rattle.item_points.specs.Points.{HasPoints}
 use Rattle.item_points.proofs.WeightPoints.{weight_points_are_few}
 use Rattle.item_points.proofs.WeightLattice.{weight_points_are_all}
 use Rattle.dual_pair.specs.Polytopes.{PolytopeState, HasManyPoints, HasNoPolytope as HasNone}
 use Rattle.dual_pair.specs.Pairs.{IsReflexivePolytope}
 use Rattle.interior_point_theory.specs.Interior.{IsInteriorPointSystem}
-use Rattle.weight_lists.specs.Systems.{line_of, HasPolytope, HasNoPolytope, HasNoHull}
+use Rattle.weight_lists.specs.Systems.{line_of, HasPolytope, HasNoPolytope}
 use Rattle.weight_lists.specs.Steps.{IsChosen}
 use Rattle.weight_lists.proofs.Deciding.{well_formed}
 

@@ -1,13 +1,12 @@
 -- What the report of a range of weight systems answers. This project's own.
-use Rattle.std.specs.Prelude.{◌≡◌, ℕ, ◌+◌, ◌≤◌, Bool, List, [], ◌∷◌, None, Result, Ok, Err}
-use Rattle.lattice_core.specs.Weights.{Weighted}
+use Rattle.std.specs.Prelude.{ℕ, ◌+◌, ◌≤◌, List, None, Result, Ok, Err}
 use Rattle.lattice_core.specs.declared.faults.Refusal.{Refusal}
 use Rattle.palp_io.specs.Faults.{Rose}
 use Rattle.palp_io.specs.Sink.{SinkState}
-use Rattle.report_theory.specs.Report.{Whole, Ends, Step, stop_at}
-use Rattle.report_theory.specs.Giving.{GivesItem, GivesReport, GivesFront}
+use Rattle.report_theory.specs.Report.{Step, stop_at}
+use Rattle.report_theory.specs.Giving.{GivesReport, GivesFront}
 use Rattle.weight_enum.specs.Taken.{AreSearched}
-use Rattle.weight_lists.specs.Entries.{ListEntry, System, AreListEntries}
+use Rattle.weight_lists.specs.Entries.{ListEntry, AreListEntries}
 use Rattle.weight_lists.specs.declared.fault.ListFault.{ListFault}
 use Rattle.weight_lists.specs.declared.fault.ListFault.TheVariants as faults
 

@@ -1,5 +1,5 @@
 -- The laws of this crate, as statements. This project's own.
-use Rattle.std.specs.Prelude.{◌≡◌, ℕ, ◌+◌, ◌<◌, ◌^◌, Bool, List, length}
+use Rattle.std.specs.Prelude.{◌≡◌, ℕ, ◌<◌, ◌^◌, Bool, List, length}
 use Rattle.lattice_core.specs.Weights.{Weighted}
 use Rattle.report_theory.specs.Report.{SaysOne}
 use Rattle.interior_point_theory.specs.Interior.{AreSystemsOfRange}

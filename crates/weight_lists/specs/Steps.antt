@@ -4,7 +4,7 @@ use Rattle.lattice_core.specs.Weights.{Weighted}
 use Rattle.lattice_core.specs.declared.faults.Fault.{Fault}
 use Rattle.lattice_core.specs.declared.faults.Fault.TheVariants as stops
 use Rattle.palp_io.specs.Faults.{Rose}
-use Rattle.palp_io.specs.Sink.{SinkState, Gains, GainsFront, IsGiveFault}
+use Rattle.palp_io.specs.Sink.{SinkState, Gains, IsGiveFault}
 use Rattle.report_theory.specs.Report.{Whole, Ends}
 use Rattle.report_theory.specs.Giving.{GivesItem, GivesFront}
 use Rattle.weight_lists.specs.Entries.{System}

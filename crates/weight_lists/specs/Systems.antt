@@ -1,6 +1,6 @@
 -- The polytope of a weight system, or why it has none within the limits; and what it turns out to be (math/0204356: weight systems and their
 -- polytopes; alg-geom/9310003: reflexive polytopes; the limits are this project's own).
-use Rattle.std.specs.Prelude.{◌≡◌, ◌⊎◌, List, [], ◌∷◌, ℤ}
+use Rattle.std.specs.Prelude.{◌⊎◌, List, [], ◌∷◌, ℤ}
 use Rattle.lattice_core.specs.Dimensions.{dimension_of}
 use Rattle.lattice_core.specs.Weights.{Weighted}
 use Rattle.lattice_core.specs.declared.faults.Refusal.{Refusal}

@@ -23,7 +23,10 @@ fn lists_the_systems_of_a_range(rt: HostRuntime) -> Result<(), Fail> {
     let alloc = rt.alloc();
     let mut out = MemSink::new(alloc, 100, vec![in alloc;]?)?;
     list_systems(alloc, &small(false), &mut out).expect(&rt, "a list");
-    assert_eq!(rt; out.given(), b"3 1 1 1\n4 1 1 2\n6 1 2 3\n#ip:3\n".as_slice());
+    assert_eq!(rt;
+        out.given(),
+        b"3 1 1 1\n4 1 1 2\n6 1 2 3\n#ip:3\n".as_slice()
+    );
     Ok(())
 }
 
@@ -32,7 +35,10 @@ fn lists_the_reflexive_systems_of_a_range(rt: HostRuntime) -> Result<(), Fail> {
     let alloc = rt.alloc();
     let mut out = MemSink::new(alloc, 100, vec![in alloc;]?)?;
     list_systems(alloc, &small(true), &mut out).expect(&rt, "a list");
-    assert_eq!(rt; out.given(), b"3 1 1 1\n4 1 1 2\n6 1 2 3\n#ref:3\n".as_slice());
+    assert_eq!(rt;
+        out.given(),
+        b"3 1 1 1\n4 1 1 2\n6 1 2 3\n#ref:3\n".as_slice()
+    );
     Ok(())
 }
 
@@ -46,7 +52,10 @@ fn sums_up_the_systems_of_a_range(rt: HostRuntime) -> Result<(), Fail> {
     };
     let mut out = MemSink::new(alloc, 100, vec![in alloc;]?)?;
     sum_up(alloc, &words, &mut out).expect(&rt, "a sum");
-    assert_eq!(rt; out.given(), b"systems:3 reflexive:3 M:26 N:16\n".as_slice());
+    assert_eq!(rt;
+        out.given(),
+        b"systems:3 reflexive:3 M:26 N:16\n".as_slice()
+    );
     Ok(())
 }
 

@@ -1,8 +1,7 @@
-use Rattle.std.proofs.Common.{Bool, Err, sym, subst}
+use Rattle.std.proofs.Common.{Bool, subst}
 use Rattle.std.proofs.lemmas.Result.{err_from_is_err_and}
 use Rattle.lattice_core.specs.Weights.{weighted}
-use Rattle.weight_lists.specs.Steps.{IsChosen, SystemMeans}
-use Rattle.weight_lists.specs.declared.fault.ListFault.{ListFault}
+use Rattle.weight_lists.specs.Steps.{IsChosen}
 use Rattle.weight_lists.proofs.SystemLines.{left_out_item, no_line, stopped_item, given_line, failed_line}
 use Rattle.weight_lists.proofs.listing.list_system.Goals as goal
 

@@ -1,10 +1,7 @@
-use Rattle.std.proofs.Common.{◌≡◌, ℕ, ◌+◌, ◌<◌, ◌≤◌, ◌^◌, Option, Some, None, Result, Ok, Err, Fits, w64, sym, subst, arith, rules}
+use Rattle.std.proofs.Common.{◌≡◌, ℕ, ◌+◌, ◌<◌, ◌^◌, Option, Some, None, Fits, w64, subst, arith, rules}
 use Rattle.std.proofs.lemmas.Result.{err_from_is_err_and}
-use Rattle.lattice_core.specs.Weights.{weighted}
 use Rattle.lattice_core.specs.declared.weights.WeightSystem.{WeightSystem}
 use Rattle.weight_enum.specs.Searched.{Searched, GivesSystem}
-use Rattle.weight_lists.specs.Steps.{SystemMeans}
-use Rattle.weight_lists.specs.declared.fault.ListFault.{ListFault}
 use Rattle.weight_lists.proofs.CwsLoops.{cws_unlisted, cws_nothing, cws_front, listed_small, cws_system, cws_next_few, cws_stopped, cws_more, cws_closed}
 use Rattle.weight_lists.proofs.listing.list_systems.Goals as goal
 

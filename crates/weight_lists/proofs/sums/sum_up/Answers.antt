@@ -1,10 +1,9 @@
-use Rattle.std.proofs.Common.{◌≡◌, ℕ, ◌+◌, ◌*◌, ◌<◌, ◌≤◌, ◌^◌, Option, Some, None, Result, Ok, Err, Fits, w64, sym, subst, arith, rules}
+use Rattle.std.proofs.Common.{◌≡◌, ℕ, ◌+◌, ◌*◌, ◌<◌, ◌≤◌, ◌^◌, Option, Some, None, Fits, w64, subst, arith, rules}
 use Rattle.std.specs.Int.{w128}
 use Rattle.std.proofs.lemmas.Result.{err_from_is_err_and}
-use Rattle.lattice_core.specs.Weights.{weighted}
 use Rattle.lattice_core.specs.declared.weights.WeightSystem.{WeightSystem}
 use Rattle.weight_enum.specs.Searched.{Searched, GivesSystem}
-use Rattle.weight_lists.proofs.SweepLoops.{HaveBounds, sweep_unlisted, sweep_nothing, sweep_bounds, sweep_front, sweep_system, sweep_next_few, sweep_stopped, sweep_more, sweep_closed}
+use Rattle.weight_lists.proofs.SweepLoops.{sweep_unlisted, sweep_nothing, sweep_bounds, sweep_front, sweep_system, sweep_next_few, sweep_stopped, sweep_more, sweep_closed}
 use Rattle.weight_lists.proofs.sums.sum_up.Goals as goal
 
 -- what the search gave
