@@ -138,3 +138,6 @@ impl DualPair {
         u64::from(faces[face as usize])
     }
 }
+
+#[cfg(test)]
+mod tests;
