@@ -20,30 +20,14 @@ pub(crate) struct Basis {
     pub(crate) divisor: i64,
 }
 
-/// The sum of products of entries.
+/// The sum of products of entries. They are made one by one: vectors of 64-bit products are slower.
 #[inline]
 fn paired(v: &[i64; MOST_COORDINATES], entries: &[i64]) -> i64 {
-    match entries {
-        [a, b, c] => v[0]
-            .wrapping_mul(*a)
-            .wrapping_add(v[1].wrapping_mul(*b))
-            .wrapping_add(v[2].wrapping_mul(*c)),
-        [a, b, c, d] => v[0]
-            .wrapping_mul(*a)
-            .wrapping_add(v[1].wrapping_mul(*b))
-            .wrapping_add(v[2].wrapping_mul(*c))
-            .wrapping_add(v[3].wrapping_mul(*d)),
-        [a, b, c, d, e] => v[0]
-            .wrapping_mul(*a)
-            .wrapping_add(v[1].wrapping_mul(*b))
-            .wrapping_add(v[2].wrapping_mul(*c))
-            .wrapping_add(v[3].wrapping_mul(*d))
-            .wrapping_add(v[4].wrapping_mul(*e)),
-        _ => entries
-            .iter()
-            .zip(v)
-            .fold(0_i64, |sum, (a, b)| sum.wrapping_add(a.wrapping_mul(*b))),
+    let mut sum = 0_i64;
+    for (a, b) in entries.iter().zip(v) {
+        sum = sum.wrapping_add(a.wrapping_mul(*b));
     }
+    sum
 }
 
 /// The quotient, or 0 where there is no divisor.
