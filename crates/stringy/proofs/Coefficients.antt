@@ -41,7 +41,8 @@ sum_ends A B k i s z e =
   where
     left : (n i : ℕ) → ((a : ℕ) → i ≤ a → a < i + n → B a ≡ pos 0) → sum_from n i (split_term A B k) ≡ pos 0
     left zero i h = refl
-    left (suc n) i h = let e = left n (suc i) (λ a l m. h a (omega arith) (omega arith)) in let e' = ap (λ (x : ℤ). A (k - i) *ℤ x) (h i (omega arith) (omega arith)) ∙ *ℤ-zero (A (k - i)) in omega (arith, linear)
+    left (suc n) i h = let e = left n (suc i) (λ a l m. h a (omega arith) (omega arith)) in let e' = ap (λ (x : ℤ). A (k - i) *ℤ x) (h i
+        (omega arith) (omega arith)) ∙ *ℤ-zero (A (k - i)) in omega (arith, linear)
 
 -- one term more
 pub term_so_far : (A B : Series) (k i : ℕ) (s p : ℤ) → i < k + 1 → p ≡ A (k - i) *ℤ B i → s +ℤ sum_from (k + 1 - i) i (split_term A B k) ≡ product A B k

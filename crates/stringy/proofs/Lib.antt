@@ -3,3 +3,4 @@ mod Coefficients
 mod Signs
 mod RangeSums
 mod MadeStars
+mod Ranges

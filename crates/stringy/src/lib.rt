@@ -6,11 +6,13 @@
 //! that of the numbers of lattice points (`h_star_of`).
 #![tactic(auto)]
 
+mod lists;
 mod numbers;
 mod rows;
 mod stars;
 #[cfg(test)]
 mod tests;
 
+pub use lists::MOST_NUMBERS;
 pub use numbers::EPoly;
 pub use stars::h_star_of;

@@ -49,6 +49,14 @@ impl EPoly {
         }
     }
 
+    /// The largest p and q, at most 6.
+    pub fn dim(&self) -> u32
+        ensures value { result ≡ self.now.dim }
+        ensures few { result ≤ 6 }
+    {
+        self.dim
+    }
+
     /// e(p,q), where p and q are at most the dimension, which is at most 6.
     pub fn e(&self, p: u32, q: u32) -> i128
         requires p { p ≤ self.now.dim }

@@ -16,4 +16,5 @@ fn numbers_of_no_terms(rt: HostRuntime) {
     let numbers = EPoly::of(Poly2::zero(), 6, 1);
     assert!(rt; numbers.e(0, 6) == 0 && numbers.hodge_of(3, 4) == 0);
     assert!(rt; numbers.euler() == 0);
+    assert!(rt; numbers.diamond().len() == 49 && numbers.first_numbers().len() == 5);
 }

@@ -5,7 +5,8 @@ use Rattle.stringy.proofs.Signs.{signed_even, signed_odd}
 use Rattle.stringy.proofs.numbers.signed.Goals as goal
 
 pub returns-then-places-eq0 : goal.returns-then-places-eq0
-returns-then-places-eq0 c = let fits : SFits w128 c.args.number = search rules in simp to_z-of_z (signed_even c.args.places c.args.number (omega (arith, c.if-places-eq0.true)))
+returns-then-places-eq0 c = let fits : SFits w128 c.args.number = search rules in simp to_z-of_z (signed_even c.args.places c.args.number (omega
+    (arith, c.if-places-eq0.true)))
 
 pub returns-else-places-eq0 : goal.returns-else-places-eq0
 returns-else-places-eq0 c =

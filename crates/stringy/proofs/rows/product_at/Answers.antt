@@ -21,7 +21,8 @@ loop-b-preserved c =
     let fits : SFits w64 c.product_of-sum.result = search rules in
     let within : c.loop-b.b < c.args.k + 1 = let h = c.loop-b-test.true in let m = c.min-b-end.ensures in omega arith in
     let total : SFits w64 (to_z w64 c.loop-b.sum-bits +ℤ c.product_of-sum.result) =
-    sum_fits (to_z w64 c.loop-b.sum-bits) c.product_of-sum.result c.loop-b.b (let h = c.loop-b-test.true in let m = c.min-b-end.ensures in omega arith) c.product_of-sum.ensures.small c.loop-b.invariant.bound in
+    sum_fits (to_z w64 c.loop-b.sum-bits) c.product_of-sum.result c.loop-b.b (let h = c.loop-b-test.true in let m =
+    c.min-b-end.ensures in omega arith) c.product_of-sum.ensures.small c.loop-b.invariant.bound in
     record {
       sum = simp to_z-of_z (term_so_far (entry c.args.first.now) (entry c.args.second.now) c.args.k c.loop-b.b
           (to_z w64 c.loop-b.sum-bits) c.product_of-sum.result within (product_is c) c.loop-b.invariant.sum);
