@@ -1,2 +1,4 @@
 pub mod TopSteps
 pub mod Degrees
+pub mod Added
+pub mod BaseLaws

@@ -1,1 +1,3 @@
 pub mod Tops
+pub mod Counting
+pub mod Laws

@@ -1,5 +1,6 @@
 //! The base of a point over the vectors of a segment's cone.
-use crate::{base_into, degree_of, tight_into};
+use crate::{add_point, base_into, degree_of, tight_into};
+use bit_pool::Generation;
 use lattice_core::{Functional, Point};
 use std::test::Fail;
 
@@ -19,5 +20,16 @@ fn finds_the_base_of_a_point(rt: HostRuntime) -> Result<(), Fail> {
     let mut words = [0; 1];
     tight_into(&mut words, &vectors, &x, &base);
     assert_eq!(rt; words, [3]);
+    Ok(())
+}
+
+#[test]
+fn counts_a_point_for_the_sets_within(rt: HostRuntime) -> Result<(), Fail> {
+    let mut sets = Generation::open(rt.alloc(), 0, 1, 2)?;
+    sets.push(&[1]);
+    sets.push(&[4]);
+    let mut counts = [0; 14];
+    add_point(&mut counts, &sets, &[3], 2);
+    assert_eq!(rt; counts, [0, 0, 1, 0, 0, 0, 0, 0, 0, 0, 0, 0, 0, 0]);
     Ok(())
 }

@@ -1,0 +1,22 @@
+-- How a point is counted by sets of vectors and by degrees. This project's own.
+use Rattle.std.specs.Prelude.{◌≡◌, ◌≢◌, ℕ, suc, ◌+◌, ◌*◌, ◌<◌, List, [], length, slice_index_or}
+use Rattle.std.specs.List.{All}
+use Rattle.bit_pool.specs.Bits.{IsSubset}
+use Rattle.base_counts.specs.declared.counts.TheConstants.{DEGREES}
+
+-- each row has so many words
+abbrev pub HaveWords : ℕ → List (List ℕ) → Type 0
+HaveWords many rows = All (λ row. length row ≡ many) rows
+
+-- the row of a set, and its count at a degree: the counts stand set by set
+abbrev pub set_at : List (List ℕ) → ℕ → List ℕ
+set_at rows k = slice_index_or rows k []
+
+abbrev pub count_at : List ℕ → ℕ → ℕ → ℕ
+count_at counts k l = slice_index_or counts (k * DEGREES + l) 0
+
+-- for each set that is within the words the count at the degree is one more, and no other count changes
+pub record IsAddedAt (rows : List (List ℕ)) (tight : List ℕ) (degree : ℕ) (old new : List ℕ) : Type 0 where
+  pub counted : (k : ℕ) → k < length rows → IsSubset (set_at rows k) tight → count_at new k degree ≡ suc (count_at old k degree)
+  pub passed : (k : ℕ) → k < length rows → (IsSubset (set_at rows k) tight → ⊥) → count_at new k degree ≡ count_at old k degree
+  pub others : (k l : ℕ) → k < length rows → l < DEGREES → l ≢ degree → count_at new k l ≡ count_at old k l
