@@ -1,15 +1,18 @@
 -- Steps of the listing.
-use Rattle.std.proofs.Common.{◌≡◌, ◌⊎◌, inl, inr, ⊎_elim, ℕ, zero, suc, ◌+◌, ◌-◌, ◌*◌, ◌/◌, ◌<◌, ◌≤◌, List, [], ◌∷◌, ◌++◌, length, map}
+use Rattle.std.proofs.Common.{◌≡◌, ◌≢◌, ◌⊎◌, inl, inr, ⊎_elim, ℕ, zero, suc, ◌+◌, ◌-◌, ◌*◌, ◌/◌, ◌<◌, ◌≤◌, List, [], ◌∷◌, ◌++◌, length, map}
 use Rattle.std.proofs.Common.{take, drop, get_or, ℤ, All, refl, sym, ap, ◌∙◌, subst, arith}
 use Rattle.std.specs.List.{Contains}
 use Rattle.std.specs.Prelude.{slice_set}
-use Rattle.lattice_theory.proofs.Members.{Each, empty, more, each_from_all, all_from_each}
+use Rattle.std.proofs.Math.ListN.{get_or-map}
+use Rattle.std.proofs.lemmas.Int.{ints}
+use Rattle.lattice_theory.proofs.Members.{Each, empty, more, each_from_all, all_from_each, In, here, there, contains_from_in}
+use Rattle.lattice_theory.proofs.Sublists.{ascends_append}
 use Rattle.std.proofs.lemmas.Bool.{cases_lt}
 use Rattle.std.proofs.lemmas.List.{drop_more}
 use Rattle.std.proofs.lemmas.List.Elements.{Contains-append_left, Contains-append_right, Contains-append_cases}
 use Rattle.std.proofs.Math.Nat.{le-div_iff_mul-le}
 use Rattle.weight_points.specs.steps.Waits.{spent, CanTake}
-use Rattle.weight_tails.specs.steps.Listing.{IsListed, AddsEach, lowered, tail_of}
+use Rattle.weight_tails.specs.steps.Listing.{IsListed, AddsEach, AreOnce, StayOnce, lowered, tail_of}
 use Rattle.weight_tails.proofs.LastWeights.{spent_more}
 
 -- listed with an exponent at the place of which this holds
@@ -176,35 +179,73 @@ first_taken (w ∷ weights) (x ∷ b) e left a some t h =
     nothing : (vs ws : List ℕ) → vs ≡ ws → (p l : ℕ) → p + spent (take 0 weights) b ≡ l → p + spent (take 0 weights) a ≡ l
     nothing vs ws same p l s = let m = none weights a in let o = none weights b in omega (arith, s, m, o)
 
--- behind the first place one tail is listed
-pub added_first : (weights entries : List ℕ) (place left : ℕ) (old new : List (List ℤ)) → place ≡ 1 → 0 < length weights
-    → length entries ≡ length weights → CanTake (take place weights) left → new ≡ old ++ tail_of entries ∷ []
-    → AddsEach (IsListed weights entries place left) old new
-added_first weights entries place left old new first some columns (b, t) pushed y = (
-  λ c. ⊎_elim (λ o. inl o) (λ e. inr (subst (λ (k : ℕ). IsListed weights entries k left y) (sym first) (listed e)))
+-- behind the first place the tail of the entries is listed
+pub tail_listed : (weights entries : List ℕ) (place left : ℕ) → place ≡ 1 → 0 < length weights → length entries ≡ length weights
+    → CanTake (take place weights) left → IsListed weights entries place left (tail_of entries)
+tail_listed weights entries place left first some columns (b, t) = subst (λ (k : ℕ). IsListed weights entries k left (tail_of entries)) (sym first) (record {
+  exponents = get_or b 0 0 ∷ drop 1 entries;
+  columns = long entries (omega (arith, columns, some)) ∙ columns;
+  takes = first_taken weights b (get_or b 0 0) left (drop 1 entries) some (subst (λ (k : ℕ). spent (take k weights) b ≡ left) first t) refl;
+  agrees = refl;
+  same = refl;
+})
+  where
+    long : (es : List ℕ) → 0 < length es → length (get_or b 0 0 ∷ drop 1 es) ≡ length es
+    long [] h = absurd (omega (arith, h))
+    long (e ∷ es) h = refl
+
+-- and no other
+pub added_first : (weights entries : List ℕ) (place left : ℕ) (old new : List (List ℤ)) → place ≡ 1 → IsListed weights entries place left (tail_of entries)
+    → new ≡ old ++ tail_of entries ∷ [] → AddsEach (IsListed weights entries place left) old new
+added_first weights entries place left old new first listed pushed y = (
+  λ c. ⊎_elim (λ o. inl o) (λ e. inr (subst (IsListed weights entries place left) (sym e) listed))
       (in_push_cases old (tail_of entries) y (subst (λ (xs : List (List ℤ)). Contains xs y) pushed c)),
   ⊎_elim (λ o. subst (λ (xs : List (List ℤ)). Contains xs y) (sym pushed) (Contains-append_left old (tail_of entries ∷ []) y o))
       (λ l. subst (λ (xs : List (List ℤ)). Contains xs y) (sym pushed) (subst (Contains (old ++ tail_of entries ∷ [])) (sym (is l)) (in_pushed old (tail_of entries)))),
 )
   where
-    t' : spent (take 1 weights) b ≡ left
-    t' = subst (λ (k : ℕ). spent (take k weights) b ≡ left) first t
-
-    long : (es : List ℕ) → 0 < length es → length (get_or b 0 0 ∷ drop 1 es) ≡ length es
-    long [] h = absurd (omega (arith, h))
-    long (e ∷ es) h = refl
-
-    listed : y ≡ tail_of entries → IsListed weights entries 1 left y
-    listed e = record {
-      exponents = get_or b 0 0 ∷ drop 1 entries;
-      columns = long entries (omega (arith, columns, some)) ∙ columns;
-      takes = first_taken weights b (get_or b 0 0) left (drop 1 entries) some t' refl;
-      agrees = refl;
-      same = e;
-    }
-
     is : IsListed weights entries place left y → y ≡ tail_of entries
     is l = l.same ∙ ap (λ (xs : List ℕ). map lowered xs) (subst (λ (k : ℕ). drop k l.exponents ≡ drop k entries) first l.agrees)
+
+-- one vector that wasn't there stands once
+pub once_first : (P : List ℤ → Type 0) (old new : List (List ℤ)) (x : List ℤ) → P x → new ≡ old ++ x ∷ [] → StayOnce P old new
+once_first P old new x holds pushed once none = subst AreOnce (sym pushed) (ascends_append (λ a b. a ≢ b) old (x ∷ []) once
+    (all_from_each {P = λ y. x ≢ y} empty, tt) apart)
+  where
+    same : (b : List ℤ) → In b (x ∷ []) → b ≡ x
+    same b here = refl
+    same b (there i) = elim i [ ]
+
+    apart : (a b : List ℤ) → In a old → In b (x ∷ []) → a ≢ b
+    apart a b i j e = none a (contains_from_in i) (subst P (sym (e ∙ same b j)) holds)
+
+-- a tail tells the exponents behind the first
+tail_tells : (a : List ℕ) (q : ℕ) → get_or (tail_of a) q (lowered 0) ≡ lowered (get_or a (suc q) 0)
+tail_tells [] q = refl
+tail_tells (e ∷ a) q = get_or-map lowered a q 0
+
+same_lowered : (m n : ℕ) → lowered m ≡ lowered n → m ≡ n
+same_lowered m n e = omega (arith, ints, e)
+
+same_exponent : (a b : List ℕ) (p : ℕ) → 0 < p → tail_of a ≡ tail_of b → get_or a p 0 ≡ get_or b p 0
+same_exponent a b zero h e = absurd (omega (arith, h))
+same_exponent a b (suc q) h e = same_lowered _ _ (sym (tail_tells a q) ∙ (ap (λ (xs : List ℤ). get_or xs q (lowered 0)) e ∙ tail_tells b q))
+
+-- what is listed with one exponent isn't listed with a smaller one
+pub once_more : (weights entries changed : List ℕ) (place left rest v : ℕ) (old middle new : List (List ℤ)) → place < length weights → 0 < place
+    → AddsEach (IsListedBelow weights entries place left v) old middle → v * get_or weights place 0 + rest ≡ left
+    → drop place changed ≡ v ∷ drop (place + 1) entries → StayOnce (IsListed weights entries (place + 1) left) old middle
+    → StayOnce (IsListed weights changed place rest) middle new → StayOnce (IsListed weights entries (place + 1) left) old new
+once_more weights entries changed place left rest v old middle new within some before spends prefix first then once none =
+    then (first once none) (λ y c l. by y (with_from_next weights entries changed place left rest v y within prefix spends l) ((before y).0 c))
+  where
+    by : (y : List ℤ) → IsListedAt weights entries place left v y → Contains old y ⊎ IsListedBelow weights entries place left v y → ⊥
+    by y l (inl c) = none y c l.listed
+    by y l (inr m) =
+        let e = same_exponent m.listed.exponents l.listed.exponents place some (sym m.listed.same ∙ l.listed.same) in
+        let below = m.holds in
+        let at = l.holds in
+        omega (arith, e, below, at)
 
 -- what is left, and what is spent
 pub affordable : (v w left : ℕ) → v < left / w + 1 → 0 < w → v * w + (left - v * w) ≡ left
@@ -226,3 +267,10 @@ small_set xs i v bound small low = all_from_each (each xs i (each_from_all (λ e
     each [] (suc j) empty = empty
     each (y ∷ ys) zero (more h rest) = more low rest
     each (y ∷ ys) (suc j) (more h rest) = more h (each ys j rest)
+
+-- where nothing stood, nothing stands twice
+pub once_from_none : (P : List ℤ → Type 0) (old new : List (List ℤ)) → old ≡ [] → StayOnce P old new → AreOnce new
+once_from_none P old new e stay = at (subst (λ (xs : List (List ℤ)). StayOnce P xs new) e stay)
+  where
+    at : StayOnce P [] new → AreOnce new
+    at s = s tt (λ y c p. let h = c.1 in omega (arith, h))

@@ -7,7 +7,7 @@ ghost use Rattle.interior_point_theory.specs.Interior.{system_of};
 ghost use Rattle.interior_point_theory.specs.Around.{HasTails};
 ghost use Rattle.weight_points.specs.steps.Waits.{CanTake};
 ghost use Rattle.weight_tails.specs.steps.Levels.{AreLevels};
-ghost use Rattle.weight_tails.specs.steps.Listing.{IsListed, AddsEach, lowered, tail_of};
+ghost use Rattle.weight_tails.specs.steps.Listing.{IsListed, AddsEach, AreOnce, StayOnce, lowered, tail_of};
 
 use crate::levels::is_enough;
 use arrayvec::ArrayVec;
@@ -73,6 +73,7 @@ fn add_tails(
     ensures small { All (λ e. e ≤ MOST_DEGREE) entries.new }
     ensures kept { OnOk result (drop place entries.new ≡ drop place entries.old) }
     ensures tails { OnOk result (AddsEach (IsListed weights.now entries.old place left) tails.old.items tails.new.items) }
+    ensures once { OnOk result (StayOnce (IsListed weights.now entries.old place left) tails.old.items tails.new.items) }
 {
     if place == 1 {
         return add_tail(entries, tails);
@@ -88,7 +89,7 @@ fn add_tails(
     Ok(())
 }
 
-/// Lists the tails of the system of weights and a degree in the place of what `tails` held, by the levels of all weights but the last. There are 2 to
+/// Lists the tails of the system of weights and a degree, each once, in the place of what `tails` held, by the levels of all weights but the last. There are 2 to
 /// 7 weights, each at least 1, and their sum is the degree, which is within its limit. Source: math/0204356, weight systems; the tails are this
 /// project's own.
 pub fn tails_of(
@@ -104,7 +105,8 @@ pub fn tails_of(
     requires degree { degree ≤ MOST_DEGREE }
     requires columns { degree < length levels.now }
     requires levels { AreLevels (take (length weights.now - 1) weights.now) levels.now }
-    ensures { OnOk result (HasTails (length weights.now - 1) (system_of degree weights.now) tails.new.items) }
+    ensures tails { OnOk result (HasTails (length weights.now - 1) (system_of degree weights.now) tails.new.items) }
+    ensures once { OnOk result (AreOnce tails.new.items) }
 {
     let mut entries = [0; MOST_COORDINATES + 1];
     tails.clear();

@@ -7,18 +7,28 @@ use Rattle.std.proofs.lemmas.List.{drop-set, drop-set-lt}
 use Rattle.std.proofs.lemmas.Result.{on_ok_weaker}
 use Rattle.lattice_core.specs.declared.limits.TheConstants.{MOST_DEGREE}
 use Rattle.lattice_core.specs.declared.point.Point.{Point}
-use Rattle.weight_tails.specs.steps.Listing.{IsListed, AddsEach}
+use Rattle.weight_tails.specs.steps.Listing.{IsListed, AddsEach, StayOnce}
 use Rattle.weight_tails.proofs.LevelSteps.{levels_tell}
-use Rattle.weight_tails.proofs.Listing.{IsListedBelow, added_first, added_all, added_more, added_none, affordable, small_exponent, small_set}
+use Rattle.weight_tails.proofs.Listing.{IsListedBelow, tail_listed, added_first, once_first, once_more, added_all, added_more, added_none, affordable, small_exponent, small_set}
 use Rattle.weight_tails.proofs.tails.+add_tails.Goals as goal
 use Rattle.weight_tails.proofs.tails.+add_tails.Goals.{then-is_enough+in_ok-add_tails, else-is_enough}
 
 pub returns-then-place-eq1-clause-tails : goal.returns-then-place-eq1-clause-tails
 returns-then-place-eq1-clause-tails t c =
     let some = c.requires.some in
+    let first : c.args.place ≡ 1 = omega arith in
     on_ok_weaker c.add_tail.result
-    (λ pushed. added_first c.args.weights.now c.args.entries.now c.args.place c.args.left _ _ (omega arith) (omega (arith, some)) c.requires.columns
-    c.requires.taken pushed)
+    (λ pushed. added_first c.args.weights.now c.args.entries.now c.args.place c.args.left _ _ first
+    (tail_listed c.args.weights.now c.args.entries.now c.args.place c.args.left first (omega (arith, some)) c.requires.columns c.requires.taken) pushed)
+    c.add_tail.ensures
+
+pub returns-then-place-eq1-clause-once : goal.returns-then-place-eq1-clause-once
+returns-then-place-eq1-clause-once t c =
+    let some = c.requires.some in
+    let first : c.args.place ≡ 1 = omega arith in
+    on_ok_weaker c.add_tail.result
+    (λ pushed. once_first (IsListed c.args.weights.now c.args.entries.now c.args.place c.args.left) _ _ _
+    (tail_listed c.args.weights.now c.args.entries.now c.args.place c.args.left first (omega (arith, some)) c.requires.columns c.requires.taken) pushed)
     c.add_tail.ensures
 
 pub add_tails-requires : goal.add_tails-requires
@@ -106,6 +116,12 @@ loop-value-preserved t c =
             tails = subst (λ (tails : Vec Point Global). AddsEach (IsListedBelow weights entries p left (v + 1)) old tails.items) (sym u.tails-is)
                 (added_more weights entries changed p left (left - v * w) v old middle u.add_tails.new.tails.items within
                 c.loop-value.invariant.tails spends prefix u.in_ok-add_tails.ensures.tails);
+            once = subst (λ (tails : Vec Point Global). StayOnce (IsListed weights entries c.args.place left) old tails.items) (sym u.tails-is)
+                (subst (λ (k : ℕ). StayOnce (IsListed weights entries k left) old u.add_tails.new.tails.items) (sym next)
+                (once_more weights entries changed p left (left - v * w) v old middle u.add_tails.new.tails.items within (omega arith)
+                c.loop-value.invariant.tails spends prefix
+                (subst (λ (k : ℕ). StayOnce (IsListed weights entries k left) old middle) next c.loop-value.invariant.once)
+                u.in_ok-add_tails.ensures.once));
           }
       | else-is_enough u ↦
           record {
@@ -116,6 +132,8 @@ loop-value-preserved t c =
                 (added_none weights entries entries p left (left - v * w) v old middle middle within
                 c.loop-value.invariant.tails spends (λ taken. false≢true (sym u.if-is_enough.false ∙ c.is_enough.ensures.1
                 ((levels_tell weights c.args.levels.now (omega (arith, some)) c.requires.levels p (left - v * w) within (omega (arith, room))).1 taken))));
+            once = subst (λ (tails : Vec Point Global). StayOnce (IsListed weights entries c.args.place left) old tails.items) (sym u.tails-is)
+                c.loop-value.invariant.once;
           }
     ]
 

@@ -1,6 +1,6 @@
 use Rattle.std.proofs.Common.{◌≡◌, ◌≤◌, length, drop, All}
 use Rattle.lattice_core.specs.declared.limits.TheConstants.{MOST_DEGREE}
-use Rattle.weight_tails.specs.steps.Listing.{AddsEach}
+use Rattle.weight_tails.specs.steps.Listing.{IsListed, AddsEach, StayOnce}
 use Rattle.weight_tails.proofs.Listing.{IsListedBelow}
 use Rattle.weight_tails.proofs.tails.+add_tails.Given as goal
 
@@ -13,4 +13,5 @@ invariant-loop-value l = record {
   small : All (λ e. e ≤ MOST_DEGREE) l.entries;
   kept : drop l.place l.entries ≡ drop l.place l.initial.entries;
   tails : AddsEach (IsListedBelow l.weights l.initial.entries l.last l.left l.value) l.initial.tails.items l.tails.items;
+  once : StayOnce (IsListed l.weights l.initial.entries l.place l.left) l.initial.tails.items l.tails.items;
 }
