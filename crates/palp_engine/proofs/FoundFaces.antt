@@ -13,8 +13,9 @@ use Rattle.face_poset.specs.Faces.{FaceState, TableState, IsTableOf}
 use Rattle.face_poset.specs.Builds.{id_at, LacksFirst}
 use Rattle.face_poset.specs.Counts.{IsFaceCount, AreFaceCounts}
 use Rattle.face_poset.proofs.FaceCounts.{table_counts_faces_lem, few_faces_lem}
+use Rattle.dual_pair.specs.Faces.{AreFacesOf}
 use Rattle.palp_print.specs.Blocks.{ArePaired}
-use Rattle.palp_engine.specs.FaceSteps.{HasRowRoom, CanHaveFaces, IsHeldOf, HaveFewFaces, with_rank, of_ranks}
+use Rattle.palp_engine.specs.FaceSteps.{HasRowRoom, lists_in, CanHaveFaces, IsHeldOf, HaveFewFaces, with_rank, of_ranks}
 
 -- the values of facets at vertices can be worked out
 pub have_values : (facets : List Affine) (vertices : List (List ℤ)) → ArePaired facets vertices → HaveValues vertices facets
@@ -80,3 +81,10 @@ counted_faces R table counts h few is = record {
     each = each_rank R table.faces (λ rank. table_counts_faces_lem R table rank h);
   });
 }
+
+-- a table that was large enough
+pub found_faces : (vertices : List (List ℤ)) (facets : List Affine) (before now : TableState) → length vertices ≤ before.members
+    → length facets ≤ before.functions → now.members ≡ before.members → now.functions ≡ before.functions → IsTableOf (valued vertices facets) now
+    → AreFacesOf (lists_in vertices facets) now
+found_faces vertices facets before now m f e g t =
+    record { members_fit = omega (arith, m, e); functions_fit = omega (arith, f, g); faces = t }

@@ -35,8 +35,9 @@ use Rattle.palp_print.specs.declared.titles.Title.TheVariants.{Vertices, Points}
 use Rattle.palp_engine.specs.Shown.{ask_dual, Shown, Alone, Paired, shown_polytope, IsShown, HasNumbers, AskNumbers, AskFaces}
 use Rattle.palp_engine.specs.Items.{HasPolytope, IsItemRefused, IsPiece, IsUnwanted, no_asked_dual, many_faces, have_ones, item_echo, facet_block}
 use Rattle.palp_engine.specs.Items.{asked, blocks}
+use Rattle.palp_engine.specs.Laws.{OnesTellReflexive}
 use Rattle.palp_engine.specs.RunSteps.{ArePrinted, IsKept}
-use Rattle.palp_engine.specs.FaceSteps.{CanHaveFaces, IsFaceLimit, IsFaceStop, HaveFewFaces, AreNumbersWhere}
+use Rattle.palp_engine.specs.FaceSteps.{lists_in, CanHaveFaces, IsFaceLimit, IsFaceStop, HaveFewFaces, AreNumbersWhere}
 use Rattle.palp_engine.specs.PieceSteps.{list_points, lists_of, blocks_of, IsPairOf, IsAloneWritten, IsPairWritten, IsPairStop, IsWritten}
 use Rattle.palp_engine.specs.declared.polytopes.Polytope.{Polytope}
 use Rattle.palp_engine.proofs.PrintedPolytopes.{polytope_paired, polytope_points}
@@ -68,6 +69,11 @@ listed_for_points false b t = absurd (search rules)
 ones_decide : (facets : List Affine) → Decides (have_ones facets) (All (λ f. f.constant ≡ pos 1) facets)
 ones_decide facets = Decides-by_and (λ (f : Affine). int_eq f.constant (pos 1)) (λ (f : Affine). f.constant ≡ pos 1) have_ones
     (λ f. Decides-int_eq f.constant (pos 1)) refl (λ f fs. refl) facets
+
+pub ones_tell : OnesTellReflexive
+ones_tell p is =
+    let own = reflexive (dimension_of p.vertices) p.vertices p.facets is.facets_are in
+    (λ t. own.0 ((ones_decide p.facets).0 (true_of (have_ones p.facets) t)), λ r. is_true (have_ones p.facets) ((ones_decide p.facets).1 (own.1 r)))
 
 -- columns that aren't asked don't matter
 asked_columns : (on : Bool) (xs ys : List (List ℤ)) → (IsTrue on → xs ≡ ys) → asked on (columns Points xs) ≡ asked on (columns Points ys)
@@ -113,12 +119,12 @@ faces_told table counts vs ws fs gs dim v f d l t h =
 -- the blocks of a polytope alone were written
 pub alone_written : (flags : PolyFlags) (item : Listed) (kept : Polytope) (before now : List ℕ) (table : TableState) (counts : List ℕ)
     (vs : List (List ℤ)) (fs : List Affine) (dim : ℕ) → vs ≡ kept.vertices.items → fs ≡ kept.facets.items
-    → dim ≡ dimension_of kept.vertices.items → dim ≤ 6 → (IsTrue flags.incidence → IsTableOf (valued vs fs) table)
+    → dim ≡ dimension_of kept.vertices.items → dim ≤ 6 → (IsTrue flags.incidence → AreFacesOf (lists_in vs fs) table)
     → ((R : TightRelation) → IsTableOf R table → HaveFewFaces R 6 counts) → now ≡ before ++ blocks_of flags item kept (take dim counts)
     → IsAloneWritten flags item kept before now
 alone_written flags item kept before now table counts vs fs dim v f d l t h written = record {
   counts = take dim counts;
-  faces = λ on. faces_told table counts vs kept.vertices.items fs kept.facets.items dim v f d l (t on) h;
+  faces = λ on. faces_told table counts vs kept.vertices.items fs kept.facets.items dim v f d l (t on).faces h;
   written = written;
 }
 
@@ -153,10 +159,16 @@ module _ (flags : PolyFlags) (item : Listed) (pair : PairState) (dim : ℕ) (d :
     )
     pair_fault faults.NoMemory h = h
 
-    module _ (table : TableState) (found : IsTrue asked → IsTableOf (valued vs fs) table) where
-      pub found_for_numbers : IsTrue numbered → IsTableOf (on_facets pair.m) table
-      found_for_numbers on = subst (λ (xs : List (List ℤ)). IsTableOf (valued xs pair.m.facets) table) v
-          (subst (λ (gs : List Affine). IsTableOf (valued vs gs) table) f (found (a.1 (inr on))))
+    module _ (table : TableState) (found : IsTrue asked → AreFacesOf (lists_in vs fs) table) where
+      pub found_for_numbers : IsTrue numbered → AreFacesOf pair.m table
+      found_for_numbers on =
+          let t = found (a.1 (inr on)) in
+          record {
+            members_fit = subst (λ (xs : List (List ℤ)). length xs ≤ table.members) v t.members_fit;
+            functions_fit = subst (λ (gs : List Affine). length gs ≤ table.functions) f t.functions_fit;
+            faces = subst (λ (xs : List (List ℤ)). IsTableOf (valued xs pair.m.facets) table) v
+                (subst (λ (gs : List Affine). IsTableOf (valued vs gs) table) f t.faces);
+          }
 
       pub pair_written : (before now : List ℕ) (numbers : HodgeLine) (counts : List ℕ) (most : ℕ) → most ≡ dimension_of pair.m.vertices
           → most ≤ 6 → AreNumbersWhere numbered pair.m numbers → ((R : TightRelation) → IsTableOf R table → HaveFewFaces R 6 counts)
@@ -171,21 +183,12 @@ module _ (flags : PolyFlags) (item : Listed) (pair : PairState) (dim : ℕ) (d :
       }
         where
           told : IsTrue asked → HaveFewFaces (on_facets pair.m) (dimension_of pair.m.vertices) (take most counts)
-          told on = faces_told table counts vs pair.m.vertices fs pair.m.facets most v f m l (found on) h
+          told on = faces_told table counts vs pair.m.vertices fs pair.m.facets most v f m l (found on).faces h
 
           by : (b : Bool) → numbered ≡ b → IsTrue flags.general → IsHodgeLine pair.m numbers
           by true e on = are.asked (is_true numbered e)
           by false e on = subst (IsHodgeLine pair.m) (sym (are.none (not_true numbered e)))
               (no_numbers pair.m (λ some. not_true numbered e (n.1 (subst (AskNumbers flags) (sym d) (on, some)))))
-
--- a table for the vertices and facets of a pair's polytope
-pub pair_table : (pair : PairState) (table : TableState) → IsPair pair → table.members ≡ 128 → table.functions ≡ 128
-    → IsTableOf (on_facets pair.m) table → AreFacesOf pair.m table
-pair_table pair table is m f t = record {
-  members_fit = let few = is.polytope.few_vertices in omega arith;
-  functions_fit = let few = is.polytope.few_facets in omega arith;
-  faces = t;
-}
 
 -- the vertices and facets of a pair's polytope, and its points, can be printed
 module _ (pair : PairState) (is : IsPair pair) where

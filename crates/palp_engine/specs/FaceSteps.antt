@@ -10,7 +10,7 @@ use Rattle.face_theory.specs.Faces.{TightRelation}
 use Rattle.face_closing.specs.Tables.{HasMoreFaces}
 use Rattle.face_closing.specs.declared.limits.TheConstants.{MOST_FACES}
 use Rattle.incidence.specs.Incidences.{IncidenceState, IsHeld, Tells}
-use Rattle.face_poset.specs.Faces.{FaceState, TableState}
+use Rattle.face_poset.specs.Faces.{FaceState}
 use Rattle.face_poset.specs.Counts.{AreFaceCounts}
 use Rattle.dual_pair.specs.Polytopes.{PolytopeState}
 use Rattle.batyrev.specs.Lines.{IsHodgeLine}
@@ -23,11 +23,9 @@ pub record HasRowRoom (pool : PoolState) : Type 0 where
   pub width : pool.width ≡ MOST_VERTICES
   pub room : MOST_VERTICES + MOST_FACETS ≤ pool.young_generation.reserved
 
--- and a table was opened for them
-pub record HaveFaceRoom (pool : PoolState) (table : TableState) : Type 0 where
-  pub rows : HasRowRoom pool
-  pub members : table.members ≡ MOST_VERTICES
-  pub functions : table.functions ≡ MOST_FACETS
+-- the vertices and facets of a polytope, whose points aren't asked
+abbrev pub lists_in : List (List ℤ) → List Affine → PolytopeState
+lists_in vertices facets = record { vertices = vertices; facets = facets; points = [] }
 
 -- few facets and vertices, whose values can be worked out
 pub record CanHaveFaces (facets : List Affine) (vertices : List (List ℤ)) : Type 0 where

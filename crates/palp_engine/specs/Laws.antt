@@ -1,5 +1,5 @@
 -- What is said of points, of items and of texts is said once: the laws of this crate, as statements. This project's own.
-use Rattle.std.specs.Prelude.{◌≡◌, ℕ, ◌<◌, true, false, List, [], ℤ, length}
+use Rattle.std.specs.Prelude.{◌≡◌, ◌↔◌, ℕ, ◌<◌, true, false, IsTrue, List, [], ℤ, length}
 use Rattle.std.specs.List.{concat}
 use Rattle.lattice_core.specs.declared.faults.Refusal.{Refusal}
 use Rattle.palp_io.specs.Sink.{IsPrefix}
@@ -7,9 +7,10 @@ use Rattle.report_theory.specs.Report.{Closing, ArePieces}
 use Rattle.palp_words.specs.declared.job.Job.{Job}
 use Rattle.palp_words.specs.declared.job.PolyFlags.{PolyFlags}
 use Rattle.palp_input.specs.Grammar.{Listed, TextEnd}
-use Rattle.dual_pair.specs.Pairs.{PairState, IsPair}
+use Rattle.dual_pair.specs.Polytopes.{PolytopeState, IsPolytope}
+use Rattle.dual_pair.specs.Pairs.{IsReflexivePolytope, PairState, IsPair}
 use Rattle.palp_engine.specs.Reports.{HaveFewPoints, IsRefused}
-use Rattle.palp_engine.specs.Items.{HasPolytope, IsItemRefused, IsPiece, IsUnwanted, item_echo}
+use Rattle.palp_engine.specs.Items.{HasPolytope, IsItemRefused, IsPiece, IsUnwanted, item_echo, have_ones}
 use Rattle.palp_engine.specs.Entries.{Entry, AreEntries}
 use Rattle.palp_engine.specs.Commands.{Says}
 use Rattle.palp_engine.specs.Texts.{HaveReport, IsReport, IsFront}
@@ -30,6 +31,10 @@ OneRefusal = (n : ℕ) (points : List (List ℤ)) (cause other : Refusal) → 0 
 -- points that have such lists aren't refused
 abbrev pub PolytopeOrRefusal : Type 0
 PolytopeOrRefusal = (n : ℕ) (points : List (List ℤ)) (cause : Refusal) → HaveFewPoints n points → IsRefused n points cause → ⊥
+
+-- the constants of the facets tell whether a polytope is reflexive
+abbrev pub OnesTellReflexive : Type 0
+OnesTellReflexive = (p : PolytopeState) → IsPolytope p → IsTrue (have_ones p.facets) ↔ IsReflexivePolytope p
 
 -- letters ask for no two pieces of an item
 abbrev pub OnePiece : Type 0

@@ -1,13 +1,12 @@
 //! The faces of a polytope, and how many there are of each dimension.
 
-ghost use Rattle.std.specs.Prelude.{◌≡◌, ◌+◌, ◌≤◌, [], IsTrue, IfOk, OnOk, MatchResult};
+ghost use Rattle.std.specs.Prelude.{◌≡◌, ◌+◌, ◌≤◌, [], length, IsTrue, IfOk, OnOk, MatchResult};
 ghost use Rattle.lattice_core.specs.Stops.{Stops};
 ghost use Rattle.face_theory.specs.Faces.{TightRelation};
 ghost use Rattle.face_theory.specs.Pairings.{valued};
 ghost use Rattle.face_poset.specs.Faces.{IsTableOf};
-ghost use Rattle.dual_pair.specs.Faces.{on_facets};
-ghost use Rattle.dual_pair.specs.Pairs.{IsPair};
-ghost use Rattle.palp_engine.specs.FaceSteps.{HasRowRoom, CanHaveFaces, IsHeldOf, IsFaceLimit, IsFaceStop, HaveFewFaces, AreNumbersWhere};
+ghost use Rattle.dual_pair.specs.Faces.{AreFacesOf};
+ghost use Rattle.palp_engine.specs.FaceSteps.{HasRowRoom, lists_in, CanHaveFaces, IsHeldOf, IsFaceLimit, IsFaceStop, HaveFewFaces, AreNumbersWhere};
 ghost use Rattle.lattice_core.specs.declared.limits.TheConstants.{MOST_FACETS, MOST_VERTICES};
 
 use batyrev::{HodgeLine, hodge};
@@ -22,7 +21,11 @@ use lattice_core::{
 use std::alloc::Global;
 use std::marker::Model;
 
-/// The room in which the faces of polytopes are found, one polytope after another. Contracts see the table of faces.
+/// How many vertices and facets the first table is for: their sets have one word each.
+const SMALL: usize = 64;
+
+/// The room in which the faces of polytopes are found, one polytope after another: the table is for few vertices and facets until a polytope has
+/// more. Contracts see the table of faces.
 #[derive(Drop)]
 pub(crate) struct Faces {
     pool: RowPool,
@@ -31,13 +34,13 @@ pub(crate) struct Faces {
 
 impl Model for Faces {
     ghost use Rattle.face_poset.specs.Faces.{TableState};
-    ghost use Rattle.palp_engine.specs.FaceSteps.{HaveFaceRoom};
+    ghost use Rattle.palp_engine.specs.FaceSteps.{HasRowRoom};
 
     ghost Value = { TableState };
 
     ghost view = { λ f. f.table };
 
-    ghost invariant = { λ f. HaveFaceRoom f.pool f.table };
+    ghost invariant = { λ f. HasRowRoom f.pool };
 }
 
 /// A pool with room for the rows of the most vertices and facets.
@@ -51,15 +54,38 @@ fn open_pool(alloc: Global) -> Result<RowPool, NoMemory>
     }
 }
 
-/// A table for the most vertices and facets.
-fn open_table(alloc: Global) -> Result<FaceTable, NoMemory>
-    ensures members { IfOk result (λ table. table.members ≡ MOST_VERTICES) }
-    ensures functions { IfOk result (λ table. table.functions ≡ MOST_FACETS) }
+/// A table for so many vertices and facets, 1 to 128 of each.
+fn open_table(alloc: Global, vertices: usize, facets: usize) -> Result<FaceTable, NoMemory>
+    requires some_vertices { 1 ≤ vertices }
+    requires most_vertices { vertices ≤ MOST_VERTICES }
+    requires some_facets { 1 ≤ facets }
+    requires most_facets { facets ≤ MOST_FACETS }
+    ensures members { IfOk result (λ table. table.members ≡ vertices) }
+    ensures functions { IfOk result (λ table. table.functions ≡ facets) }
 {
-    match FaceTable::open(alloc, MOST_VERTICES as u32, MOST_FACETS as u32) {
+    match FaceTable::open(alloc, vertices as u32, facets as u32) {
         Ok(table) => Ok(table),
         Err(_) => Err(NoMemory),
     }
+}
+
+/// A table that is large enough for these facets and vertices: another one is opened where it isn't.
+fn fit_table(
+    alloc: Global,
+    table: &mut FaceTable,
+    facets: &[Functional],
+    vertices: &[Point],
+) -> Result<(), NoMemory>
+    requires vertices { length vertices.now ≤ MOST_VERTICES }
+    requires facets { length facets.now ≤ MOST_FACETS }
+    ensures members { OnOk result (length vertices.now ≤ table.new.members) }
+    ensures functions { OnOk result (length facets.now ≤ table.new.functions) }
+{
+    if vertices.len() <= table.members() as usize && facets.len() <= table.functions() as usize {
+        return Ok(());
+    }
+    *table = open_table(alloc, MOST_VERTICES, MOST_FACETS)?;
+    Ok(())
 }
 
 /// Gives all rows of a pool up. Memory is taken only where it was turned over as often as it may be.
@@ -94,7 +120,7 @@ impl Faces {
     /// Takes the room. `NoMemory` comes where there is no memory for it.
     pub(crate) fn open(alloc: Global) -> Result<Faces, NoMemory> {
         let pool = open_pool(alloc)?;
-        let table = open_table(alloc)?;
+        let table = open_table(alloc, SMALL, SMALL)?;
         Ok(Faces { pool, table })
     }
 
@@ -107,9 +133,10 @@ impl Faces {
     ) -> Result<(), Fault>
         requires { CanHaveFaces facets.now vertices.now }
         ensures { MatchResult result
-            (λ done. IsTableOf (valued vertices.now facets.now) self.new)
+            (λ done. AreFacesOf (lists_in vertices.now facets.now) self.new)
             (Stops (IsFaceLimit (valued vertices.now facets.now))) }
     {
+        fit_table(alloc, &mut self.table, facets, vertices)?;
         clear_pool(alloc, &mut self.pool)?;
         let incidence = incidence_of(&mut self.pool, facets, vertices);
         match self.table.build(&incidence, &self.pool) {
@@ -147,7 +174,7 @@ impl Faces {
     ) -> Result<(), Fault>
         requires { CanHaveFaces facets.now vertices.now }
         ensures { MatchResult result
-            (λ done. IsTrue asked → IsTableOf (valued vertices.now facets.now) self.new)
+            (λ done. IsTrue asked → AreFacesOf (lists_in vertices.now facets.now) self.new)
             (Stops (IsFaceStop asked (valued vertices.now facets.now))) }
     {
         if !asked {
@@ -158,8 +185,7 @@ impl Faces {
 
     /// Batyrev's numbers of the pair of whose polytope these are the faces, where they are `asked`.
     pub(crate) fn numbers_where(&self, asked: bool, pair: &DualPair) -> HodgeLine
-        requires pair { IsPair pair.now }
-        requires found { IsTrue asked → IsTableOf (on_facets pair.now.m) self.now }
+        requires { IsTrue asked → AreFacesOf pair.now.m self.now }
         ensures { AreNumbersWhere asked pair.now.m result }
     {
         if !asked {

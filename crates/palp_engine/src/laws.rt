@@ -1,6 +1,6 @@
 //! What a text says is said once.
 
-ghost use Rattle.palp_engine.specs.Laws.{OnePolytope, OneRefusal, PolytopeOrRefusal, OnePiece, OneItemRefusal, PieceOrRefusal, PieceOrNone, NoneOrRefusal, OneListOfEntries, OneList, OneReport, FrontsAreFronts, EmptyFront, OneEndedReport, EndedReportsAreFronts, WayBack};
+ghost use Rattle.palp_engine.specs.Laws.{OnePolytope, OneRefusal, PolytopeOrRefusal, OnePiece, OneItemRefusal, PieceOrRefusal, PieceOrNone, NoneOrRefusal, OneListOfEntries, OneList, OneReport, FrontsAreFronts, EmptyFront, OneEndedReport, EndedReportsAreFronts, OnesTellReflexive, WayBack};
 
 /// A law, and no work: points have at most one list of lattice points, vertices and facets and, if there is a point, at most one refusal, and
 /// not both; so letters ask for at most one piece of an item, or for none, and it has at most one refusal, and no two of these. A job
@@ -30,4 +30,9 @@ pub fn answers_are_single()
 /// points have the dual for their polytope, as those of the block of facets have; but for the numbers of a weight line.
 pub fn dual_leads_back()
     ensures { WayBack }
+{}
+
+/// A law, and no work: a polytope is reflexive exactly where the constants of all its facets are 1, by which its block of facets is chosen.
+pub fn ones_tell_reflexive()
+    ensures { OnesTellReflexive }
 {}

@@ -18,6 +18,6 @@ mod session;
 mod tests;
 
 pub use command::run;
-pub use laws::{answers_are_single, dual_leads_back};
+pub use laws::{answers_are_single, dual_leads_back, ones_tell_reflexive};
 pub use outcome::Outcome;
 pub use session::{ItemFault, Session, report_item};

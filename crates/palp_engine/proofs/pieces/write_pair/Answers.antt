@@ -26,11 +26,8 @@ returns-in_err-find_where c =
     (subst (Stops (IsFaceStop c.asks_faces-asked.result (valued c.vertices.result.now c.facets.result.now))) (sym e.2)
     c.in_err-find_where.ensures))
 
-pub numbers_where-numbers-requires-clause-pair : goal.numbers_where-numbers-requires-clause-pair
-numbers_where-numbers-requires-clause-pair c = c.m-m.ensures.pair
-
-pub numbers_where-numbers-requires-clause-found : goal.numbers_where-numbers-requires-clause-found
-numbers_where-numbers-requires-clause-found c = found_for_numbers c.args.flags.now (listed c.args.item.now) c.args.pair.now c.dim.result
+pub numbers_where-numbers-requires : goal.numbers_where-numbers-requires
+numbers_where-numbers-requires c = found_for_numbers c.args.flags.now (listed c.args.item.now) c.args.pair.now c.dim.result
     (c.dim.ensures.value ∙ ap (λ (p : PolytopeState). dimension_of p.vertices) c.m-m.ensures.value)
     c.asks_numbers-numbered.result c.asks_faces-asked.result c.asks_numbers-numbered.ensures c.asks_faces-asked.ensures
     c.vertices.result.now c.facets.result.now
