@@ -107,7 +107,7 @@ g_only o r G h x y i j b k = g_within_only o r G h (o.gap x y) x y i j b (none (
     none n = omega arith
 
 -- upside down
-graded_down : {X : Type 0} (o : Order X) → IsGraded o → IsGraded (upside_down o)
+pub graded_down : {X : Type 0} (o : Order X) → IsGraded o → IsGraded (upside_down o)
 graded_down o r = record {
   reflexive = r.reflexive;
   antisymmetric = λ x y i j b c. r.antisymmetric x y i j c b;

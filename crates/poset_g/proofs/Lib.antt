@@ -1,0 +1,10 @@
+pub mod NumberedFaces
+pub mod NumberedIntervals
+pub mod Powers
+pub mod IntervalNumbers
+pub mod Ranges
+pub mod IntervalSums
+pub mod Terms
+pub mod FilledPlaces
+pub mod FilledRows
+pub mod MadeTables

@@ -1,0 +1,10 @@
+pub use Rattle.face_poset.specs.Faces
+pub use Rattle.stringy_theory.specs.Eulerian
+pub use Rattle.stringy_theory.specs.CountedFaces
+pub use Rattle.stringy_theory.specs.Stringy
+pub mod Numbered
+pub mod Stored
+pub mod Values
+pub mod Laws
+pub mod PlaceSteps
+pub mod FillSteps
