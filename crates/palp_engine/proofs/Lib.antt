@@ -14,3 +14,5 @@ pub mod EndedItems
 pub mod ItemSteps
 pub mod ReportSteps
 pub mod RunMeanings
+pub mod WordRanges
+pub mod ListRuns

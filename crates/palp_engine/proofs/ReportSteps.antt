@@ -21,7 +21,7 @@ use Rattle.palp_input.specs.Items.{IsItem}
 use Rattle.palp_input.proofs.Readings.{calls_read, calls_read_taken}
 use Rattle.palp_input.proofs.ItemForms.{items_are_items}
 use Rattle.palp_engine.specs.Entries.{Entry, TextItem, item_entry, AreTextEntries, AreEntries}
-use Rattle.palp_engine.specs.Commands.{IsBuilt, AreBuilt, ReadsText, Says}
+use Rattle.palp_engine.specs.Commands.{AreBuilt, ReadsText, Says}
 use Rattle.palp_engine.specs.Texts.{outcome_with, HaveReport, of_entries, no_front, front_of_entries}
 use Rattle.palp_engine.specs.Sessions.{EntryMeans}
 use Rattle.palp_engine.specs.Runs.{HavePassed, text_of, IsText, IsReported, IsReportedInPart, HasReadFault}
@@ -57,22 +57,16 @@ pub next_is_item : (item : Item) (before now : ReaderState) (source source_now :
     → NextMeans (Ok (Some item)) before now source source_now → IsItem (listed item)
 next_is_item item before now source source_now m = items_are_items (before.held ++ m.bytes) (listed item) m.answer.end m.answer.is_first
 
--- a job that is built reports on the items of the text
-built_entries : (job : Job) (text : List ℕ) (entries : List Entry) (ending : TextEnd) → IsBuilt job → AreTextEntries text entries ending
+-- a job that reads a text reports on its items
+read_entries : (job : Job) (text : List ℕ) (entries : List Entry) (ending : TextEnd) → ReadsText job → AreTextEntries text entries ending
     → AreEntries job text entries ending
-built_entries (Poly flags) text entries ending built h = h
-built_entries (Nef words) text entries ending built h = h
-built_entries (Cws words) text entries ending built h = absurd built
-built_entries (Sweep words) text entries ending built h = absurd built
-
-built_reads : (job : Job) → IsBuilt job → ReadsText job
-built_reads (Poly flags) built = tt
-built_reads (Nef words) built = tt
-built_reads (Cws words) built = built
-built_reads (Sweep words) built = built
+read_entries (Poly flags) text entries ending reads h = h
+read_entries (Nef words) text entries ending reads h = h
+read_entries (Cws words) text entries ending reads h = absurd reads
+read_entries (Sweep words) text entries ending reads h = absurd reads
 
 -- What is said of a run of which these bytes passed, by the reading of its text.
-module _ (job : Job) (is_built : IsBuilt job) (source last : SourceState) (out out_now : SinkState) (bytes : List ℕ)
+module _ (job : Job) (reads : ReadsText job) (source last : SourceState) (out out_now : SinkState) (bytes : List ℕ)
     (passed : HavePassed source last bytes) (items : List Listed) (ending : TextEnd)
     (items_are : (read_text (text_of source.left bytes)).items ≡ items)
     (ending_is : (read_text (text_of source.left bytes)).ending ≡ ending) where
@@ -81,7 +75,7 @@ module _ (job : Job) (is_built : IsBuilt job) (source last : SourceState) (out o
 
   module _ (words : List (List ℕ)) (built : AreBuilt words) (same : built.job ≡ job) where
     are_entries : AreEntries built.job (text_of source.left bytes) (map TextItem items) ending
-    are_entries = built_entries built.job (text_of source.left bytes) (map TextItem items) ending built.built
+    are_entries = read_entries built.job (text_of source.left bytes) (map TextItem items) ending (subst ReadsText (sym same) reads)
         (record { entries_are = sym (ap (map TextItem) items_are); ending_is = sym ending_is })
 
     pub reported : (stop : Option (Stop Refusal)) (outcome : Outcome) → GivesReport (Says job) (map TextItem items) stop out out_now
@@ -114,7 +108,7 @@ entries_more : (items more : List Listed) (item : Listed)
     → map TextItem (items ++ item ∷ more) ≡ map TextItem items ++ TextItem item ∷ map TextItem more
 entries_more items more item = map-append TextItem items (item ∷ more)
 
-module _ (job : Job) (is_built : IsBuilt job) (source middle last : SourceState) (before now : ReaderState) (out mid : SinkState)
+module _ (job : Job) (reads : ReadsText job) (source middle last : SourceState) (before now : ReaderState) (out mid : SinkState)
     (number : ℕ) (so_far : RunSoFar job source middle before out mid number) where
   abbrev items : List Listed
   items = so_far.items
@@ -142,13 +136,14 @@ module _ (job : Job) (is_built : IsBuilt job) (source middle last : SourceState)
 
     run_reported : (words : List (List ℕ)) (built : AreBuilt words) → built.job ≡ job → (outcome : Outcome)
         → outcome ≡ outcome_with None ending → IsReported words source last out mid outcome
-    run_reported words built same outcome o = reported job is_built source last out mid (Bytes result m) (whole_passed result m) items ending
+    run_reported words built same outcome o = reported job reads source last out mid (Bytes result m) (whole_passed result m) items ending
         text_items text_ending words built same None outcome
         (reported_all (Says job) out mid (map TextItem items) None so_far.reported) o
 
   pub run_done : NextMeans (Ok None) before now middle last → IsPerformed job source last out mid Done
   run_done m = record {
     taken = (Bytes (Ok None) m, whole_passed (Ok None) m);
+    kept = λ none. absurd (none reads);
     means = λ words built same. record {
       reported = run_reported (Ok None) m End (calls_read_taken (Ok None) before now middle last m)
           (λ more told. calls_read (Ok None) before now more middle last told m) words built same Done refl;
@@ -163,7 +158,7 @@ module _ (job : Job) (is_built : IsBuilt job) (source middle last : SourceState)
       let behind = text_behind source middle before items so_far.read m.bytes (λ e. (m.untaken e).nothing) in
       let read = text_reading source middle before items so_far.read m.bytes behind in
       let more = reading_of before behind.more in
-      in_part job is_built source last out mid (Bytes result m) (whole_passed result m) (items ++ more.items) more.ending
+      in_part job reads source last out mid (Bytes result m) (whole_passed result m) (items ++ more.items) more.ending
       (ap (λ (t : TextRead). t.items) read) (ap (λ (t : TextRead). t.ending) read) words built same
       (subst (λ (xs : List Entry). GivesFront (Says job) xs out mid) (sym (map-append TextItem items more.items))
       (reported_front (Says job) out mid (map TextItem items) None so_far.reported (map TextItem more.items)))
@@ -179,7 +174,7 @@ module _ (job : Job) (is_built : IsBuilt job) (source middle last : SourceState)
         report = report.report;
         is_ended = record {
           built = built;
-          reads = built_reads built.job built.built;
+          reads = subst ReadsText (sym same) reads;
           items = items;
           are_ended = ended_items source middle before items so_far.read m.bytes m.answer.unended m.answer.no_item;
           is_report = subst (λ (j : Job). IsListReport (Says j) 1 0 (map TextItem items) report.report None) (sym same) report.is_report;
@@ -203,6 +198,7 @@ module _ (job : Job) (is_built : IsBuilt job) (source middle last : SourceState)
       → NextMeans (Err fault) before now middle last → IsPerformed job source last out mid outcome
   run_unread fault outcome o m = subst (λ (x : Outcome). IsPerformed job source last out mid x) (sym o) (record {
     taken = (Bytes (Err fault) m, whole_passed (Err fault) m);
+    kept = λ none. absurd (none reads);
     means = λ words built same. unread_means fault m words built same;
   })
 
@@ -245,7 +241,7 @@ module _ (job : Job) (is_built : IsBuilt job) (source middle last : SourceState)
     last_part : GivesFront (Says job) (item_entry item ∷ []) mid end → (words : List (List ℕ)) (built : AreBuilt words) → built.job ≡ job
         → IsReportedInPart words source last out end
     last_part g words built same =
-        in_part job is_built source last out end taken taken_passed (items ++ listed item ∷ behind.0.items) behind.0.ending behind.1 behind.2
+        in_part job reads source last out end taken taken_passed (items ++ listed item ∷ behind.0.items) behind.0.ending behind.1 behind.2
         words built same
         (subst (λ (xs : List Entry). GivesFront (Says job) xs out end) (sym (entries_more items behind.0.items (listed item)))
         (reported_part (Says job) out mid (map TextItem items) None so_far.reported (item_entry item) end (map TextItem behind.0.items) g))
@@ -254,7 +250,7 @@ module _ (job : Job) (is_built : IsBuilt job) (source middle last : SourceState)
         (built : AreBuilt words) → built.job ≡ job → IsReported words source last out end (Refused (number + 1) cause)
     last_refused cause g words built same =
         let stop : Option (Stop Refusal) = stop_at (length (map TextItem items) + 1) cause in
-        reported job is_built source last out end taken taken_passed (items ++ listed item ∷ behind.0.items) behind.0.ending behind.1
+        reported job reads source last out end taken taken_passed (items ++ listed item ∷ behind.0.items) behind.0.ending behind.1
         behind.2 words built same stop (Refused (number + 1) cause)
         (subst (λ (xs : List Entry). GivesReport (Says job) xs stop out end) (sym (entries_more items behind.0.items (listed item)))
         (reported_end (Says job) out mid (map TextItem items) None so_far.reported (item_entry item) end (map TextItem behind.0.items)
@@ -278,7 +274,7 @@ module _ (job : Job) (is_built : IsBuilt job) (source middle last : SourceState)
     pub run_stopped : (fault : ItemFault) (outcome : Outcome) → IsStopped (number + 1) fault outcome
         → EntryMeans (Err fault) job (item_entry item) mid end → IsPerformed job source last out end outcome
     run_stopped fault outcome s g =
-        record { taken = (taken, taken_passed); means = λ words built same. stopped_means fault outcome s g words built same }
+        record { taken = (taken, taken_passed); kept = λ none. absurd (none reads); means = λ words built same. stopped_means fault outcome s g words built same }
 
 -- no page was found
 pub run_unopened : (job : Job) (source : SourceState) (out : SinkState) → IsPerformed job source source out out NoMemory
@@ -286,6 +282,7 @@ run_unopened job source out =
     let passed : HavePassed source source [] = record { passes = Passes-none source; bound = none_within; later = at_least source.faults } in
     record {
       taken = ([], passed);
+      kept = λ none. refl;
       means = λ words built same. record {
         text = text_of source.left [];
         is_text = record { bytes = []; have_passed = passed; text_is = refl };

@@ -7,13 +7,13 @@ use Rattle.palp_words.specs.Words.{words_of}
 use Rattle.palp_words.specs.declared.fault.WordFault.{WordFault}
 use Rattle.palp_words.specs.declared.job.Job.{Job}
 use Rattle.palp_input.specs.Grammar.{most_bytes}
-use Rattle.palp_engine.specs.Commands.{IsBuilt, AreBuilt, AreUnbuilt}
+use Rattle.palp_engine.specs.Commands.{IsBuilt, ReadsText, AreBuilt, AreUnbuilt}
 use Rattle.palp_engine.specs.Texts.{HaveReport, of_unbuilt, of_bad_words}
 use Rattle.palp_engine.specs.Runs.{HasTaken, IsText, AreUntouched, IsReported, IsReportedInPart, IsDone, IsRefusal, HasReadFault, HasWriteFault, HasEnding, TellsBadWords, TellsNotBuilt, IsComplete}
 use Rattle.palp_engine.specs.RunSteps.{PerformedMeans, IsPerformed, OutcomeMeans, IsAnswered}
 use Rattle.palp_engine.specs.declared.outcome.Outcome.{Outcome}
 use Rattle.palp_engine.specs.declared.outcome.Outcome.TheVariants.{Done, BadWords, BadText, Refused, TextLimit, NotBuilt, ReadFault, WriteFault, NoMemory}
-use Rattle.palp_engine.proofs.SingleReports.{job_or_fault, built_or_unbuilt}
+use Rattle.palp_engine.proofs.SingleReports.{same_job, job_or_fault, built_or_unbuilt}
 
 -- the job's outcome is the run's
 performed_means : (words : List (List ℕ)) (source source_now : SourceState) (out out_now : SinkState) (outcome : Outcome) → AreBuilt words
@@ -33,7 +33,11 @@ pub performed_answer : (words : List (List ℕ)) (job : Job) (source source_now 
     → IsAnswered words source source_now out out_now outcome
 performed_answer words job source source_now out out_now outcome e built p =
     let b : AreBuilt words = record { job = job; gives = sym e; built = built } in
-    record { taken = p.taken; means = performed_means words source source_now out out_now outcome b (p.means words b refl) }
+    record {
+      taken = p.taken;
+      kept = λ other gives none. p.kept (λ reads. none (subst ReadsText (same_job words job other (sym e) gives) reads));
+      means = performed_means words source source_now out out_now outcome b (p.means words b refl);
+    }
 
 -- a run that read nothing and gave nothing
 module _ (words : List (List ℕ)) (source : SourceState) (out : SinkState) where
@@ -48,10 +52,10 @@ module _ (words : List (List ℕ)) (source : SourceState) (out : SinkState) wher
 
   pub not_built_answer : (job : Job) → Ok job ≡ words_of words → (IsBuilt job → ⊥) → IsAnswered words source source out out NotBuilt
   not_built_answer job e other =
-      record { taken = nothing_taken; means = (record { job = job; gives = sym e; other = other }, (refl, refl)) }
+      record { taken = nothing_taken; kept = λ other gives none. refl; means = (record { job = job; gives = sym e; other = other }, (refl, refl)) }
 
   pub bad_words_answer : (fault : WordFault) → Err fault ≡ words_of words → IsAnswered words source source out out (BadWords fault)
-  bad_words_answer fault e = record { taken = nothing_taken; means = (sym e, (refl, refl)) }
+  bad_words_answer fault e = record { taken = nothing_taken; kept = λ job gives none. refl; means = (sym e, (refl, refl)) }
 
 -- The clauses one by one, from what each outcome means.
 module _ (words : List (List ℕ)) (source source_now : SourceState) (out out_now : SinkState) where

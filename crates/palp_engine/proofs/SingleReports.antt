@@ -1,5 +1,5 @@
 -- A job says of an item one thing; so words and a text have one report, which ends with one outcome, and fronts of it are its fronts.
-use Rattle.std.proofs.Common.{◌≡◌, ℕ, List, [], Option, Ok, Err, refl, sym, ◌∙◌, ap, subst}
+use Rattle.std.proofs.Common.{◌≡◌, ℕ, List, [], map, Option, Ok, Err, refl, sym, ◌∙◌, ap, subst}
 use Rattle.lattice_core.specs.declared.faults.Refusal.{Refusal}
 use Rattle.palp_io.proofs.SinkLemmas.{IsPrefix-nothing}
 use Rattle.std.specs.List.{concat}
@@ -12,7 +12,8 @@ use Rattle.palp_words.specs.declared.job.Job.{Job}
 use Rattle.palp_words.specs.declared.job.Job.TheVariants.{Poly, Nef, Cws, Sweep}
 use Rattle.palp_words.specs.declared.job.PolyFlags.{PolyFlags}
 use Rattle.palp_input.specs.Grammar.{Listed, TextEnd}
-use Rattle.palp_engine.specs.Entries.{Entry, TextItem, ListSystem, ListEnd, AreEntries}
+use Rattle.palp_engine.specs.Entries.{Entry, TextItem, OfList, AreRangeEntries, AreEntries}
+use Rattle.weight_lists.proofs.Single.{one_list_of_entries_lem, one_cws_step_lem, one_sweep_step_lem}
 use Rattle.palp_engine.specs.Commands.{BlocksSay, printed, whole, unwanted, refused, Says, IsBuilt, AreBuilt, AreUnbuilt}
 use Rattle.palp_engine.specs.Texts.{outcome_with, HaveReport, of_entries, of_unbuilt, of_bad_words, IsFront, no_front, front_of_entries}
 use Rattle.palp_engine.specs.Laws.{OneListOfEntries, OneList, OneReport, FrontsAreFronts, EmptyFront}
@@ -36,19 +37,30 @@ says_one_piece flags item _ _ _ whole whole = refl
 
 pub says_one : (job : Job) → SaysOne (Says job)
 says_one (Poly flags) (TextItem item) k step other a b = says_one_piece flags item k step other a b
-says_one (Poly flags) (ListSystem system) k step other a b = absurd a
-says_one (Poly flags) (ListEnd systems) k step other a b = absurd a
+says_one (Poly flags) (OfList entry) k step other a b = absurd a
 says_one (Nef words) entry k step other a b = absurd a
-says_one (Cws words) entry k step other a b = absurd a
-says_one (Sweep words) entry k step other a b = absurd a
+says_one (Cws words) (TextItem item) k step other a b = absurd a
+says_one (Cws words) (OfList entry) k step other a b = one_cws_step_lem words.reflexive_only entry k step other a b
+says_one (Sweep words) (TextItem item) k step other a b = absurd a
+says_one (Sweep words) (OfList entry) k step other a b = one_sweep_step_lem entry k step other a b
+
+-- a range has one list of entries
+one_range : (dim low high : ℕ) (entries others : List Entry) (ending another : TextEnd) → AreRangeEntries dim low high entries ending
+    → AreRangeEntries dim low high others another → (entries ≡ others) × (ending ≡ another)
+one_range dim low high entries others ending another a b = (
+  a.entries_are ∙ (ap (map OfList) (one_list_of_entries_lem dim low high a.listed b.listed a.are_listed b.are_listed) ∙ sym b.entries_are),
+  a.ending_is ∙ sym b.ending_is,
+)
 
 pub one_list_of_entries : OneListOfEntries
 one_list_of_entries (Poly flags) text entries others ending another a b =
     (a.entries_are ∙ sym b.entries_are, a.ending_is ∙ sym b.ending_is)
 one_list_of_entries (Nef words) text entries others ending another a b =
     (a.entries_are ∙ sym b.entries_are, a.ending_is ∙ sym b.ending_is)
-one_list_of_entries (Cws words) text entries others ending another a b = absurd a
-one_list_of_entries (Sweep words) text entries others ending another a b = absurd a
+one_list_of_entries (Cws words) text entries others ending another a b =
+    one_range words.dim words.low words.high entries others ending another a b
+one_list_of_entries (Sweep words) text entries others ending another a b =
+    one_range words.dim words.low words.high entries others ending another a b
 
 pub one_list : OneList
 one_list job entry pieces other closing another a b = reports.one_list (Says job) (says_one job) 0 entry pieces other closing another a b

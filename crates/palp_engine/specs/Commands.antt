@@ -7,15 +7,18 @@ use Rattle.palp_words.specs.declared.job.Job.{Job}
 use Rattle.palp_words.specs.declared.job.Job.TheVariants.{Poly, Nef, Cws, Sweep}
 use Rattle.palp_words.specs.declared.job.PolyFlags.{PolyFlags}
 use Rattle.palp_input.specs.Grammar.{Listed}
+use Rattle.weight_lists.specs.Entries.{ListEntry}
+use Rattle.weight_lists.specs.Lists.{CwsSays}
+use Rattle.weight_lists.specs.Sweeps.{SweepSays}
 use Rattle.palp_engine.specs.Items.{IsItemRefused, IsPiece, IsUnwanted}
-use Rattle.palp_engine.specs.Entries.{Entry, TextItem, ListSystem, ListEnd}
+use Rattle.palp_engine.specs.Entries.{Entry, TextItem, OfList}
 
--- the job is built: `poly`
+-- the job is built: it isn't `nef`
 abbrev pub IsBuilt : Job → Type 0
 IsBuilt (Poly flags) = Unit {0}
 IsBuilt (Nef words) = ⊥
-IsBuilt (Cws words) = ⊥
-IsBuilt (Sweep words) = ⊥
+IsBuilt (Cws words) = Unit {0}
+IsBuilt (Sweep words) = Unit {0}
 
 -- the job reads a text, and reports of its items
 abbrev pub ReadsText : Job → Type 0
@@ -46,12 +49,16 @@ pub data BlocksSay (flags : PolyFlags) (item : Listed) : ℕ → Step Refusal �
 -- What `poly` says of an entry, which is an item of a text.
 abbrev pub PolySays : PolyFlags → Entry → ℕ → Step Refusal → Type 0
 PolySays flags (TextItem item) k step = BlocksSay flags item k step
-PolySays flags (ListSystem system) k step = ⊥
-PolySays flags (ListEnd systems) k step = ⊥
+PolySays flags (OfList entry) k step = ⊥
+
+-- What is said of an entry of a list, and of no other.
+abbrev pub ListSays : (ListEntry → ℕ → Step Refusal → Type 0) → Entry → ℕ → Step Refusal → Type 0
+ListSays says (TextItem item) k step = ⊥
+ListSays says (OfList entry) k step = says entry k step
 
 -- What a job says of an entry: what comes next after so many of its pieces. A job that isn't built says nothing.
 abbrev pub Says : Job → Entry → ℕ → Step Refusal → Type 0
 Says (Poly flags) entry k step = PolySays flags entry k step
 Says (Nef words) entry k step = ⊥
-Says (Cws words) entry k step = ⊥
-Says (Sweep words) entry k step = ⊥
+Says (Cws words) entry k step = ListSays (CwsSays words.reflexive_only) entry k step
+Says (Sweep words) entry k step = ListSays SweepSays entry k step

@@ -1,5 +1,5 @@
 -- What the steps of a run answer. This project's own.
-use Rattle.std.specs.Prelude.{◌≡◌, ℕ, ◌+◌, ◌≤◌, min, Bool, IsTrue, List, length, ℤ, Err}
+use Rattle.std.specs.Prelude.{◌≡◌, ℕ, ◌+◌, ◌≤◌, min, Bool, IsTrue, List, length, ℤ, Result, Ok, Err}
 use Rattle.lattice_theory.specs.Affine.{Affine}
 use Rattle.lattice_theory.specs.Hull.{AreVertices}
 use Rattle.lattice_theory.specs.Facet.{AreFacets}
@@ -22,10 +22,12 @@ use Rattle.dual_pair.specs.Polytopes.{PolytopeState, IsPolytopeOf}
 use Rattle.palp_print.specs.Blocks.{AreFunctions, ArePaired}
 use Rattle.palp_engine.specs.declared.polytopes.Polytope.{Polytope}
 use Rattle.palp_engine.specs.declared.polytopes.Lattice.{Lattice}
-use Rattle.palp_engine.specs.Commands.{AreBuilt, AreUnbuilt}
-use Rattle.palp_engine.specs.Runs.{HasTaken, AreUntouched, IsReported, IsReportedInPart, IsDone, HasReadFault, HasWriteFault}
+use Rattle.palp_engine.specs.Commands.{ReadsText, AreBuilt, AreUnbuilt}
+use Rattle.palp_engine.specs.Runs.{HasTaken, AreUntouched, LeavesSource, IsReported, IsReportedInPart, IsDone, HasReadFault, HasWriteFault}
 use Rattle.palp_engine.specs.declared.outcome.Outcome.{Outcome}
 use Rattle.palp_engine.specs.declared.outcome.Outcome.TheVariants.{Done, BadWords, BadText, Refused, TextLimit, NotBuilt, ReadFault, WriteFault, NoMemory}
+use Rattle.weight_lists.specs.declared.fault.ListFault.{ListFault}
+use Rattle.weight_lists.specs.declared.fault.ListFault.TheVariants as lists
 use Rattle.palp_engine.specs.declared.session.ItemFault.{ItemFault}
 use Rattle.palp_engine.specs.declared.session.ItemFault.TheVariants as faults
 
@@ -97,6 +99,17 @@ IsStopped number (faults.Refused cause) outcome = outcome ≡ Refused number cau
 IsStopped number faults.Write outcome = outcome ≡ WriteFault
 IsStopped number faults.NoMemory outcome = outcome ≡ NoMemory
 
+-- the outcome of the report of a list
+abbrev pub list_outcome : Result (Unit {0}) ListFault → Outcome
+list_outcome (Ok done) = Done
+list_outcome (Err (lists.Refused number cause)) = Refused number cause
+list_outcome (Err lists.Write) = WriteFault
+list_outcome (Err lists.NoMemory) = NoMemory
+
+-- some words give the job
+abbrev pub IsGiven : Job → Type 0
+IsGiven job = (words : List (List ℕ)) × (words_of words ≡ Ok job)
+
 -- what each outcome of words means that give a job that is built
 abbrev pub PerformedMeans : List (List ℕ) → SourceState → SourceState → SinkState → SinkState → Outcome → Type 0
 PerformedMeans words source source_now out out_now Done = IsDone words source source_now out out_now
@@ -112,6 +125,7 @@ PerformedMeans words source source_now out out_now other = ⊥
 -- the job was done, whatever words give it
 pub record IsPerformed (job : Job) (source source_now : SourceState) (out out_now : SinkState) (outcome : Outcome) : Type 0 where
   pub taken : HasTaken source source_now
+  pub kept : (ReadsText job → ⊥) → source_now ≡ source
   pub means : (words : List (List ℕ)) (built : AreBuilt words) → built.job ≡ job
       → PerformedMeans words source source_now out out_now outcome
 
@@ -124,4 +138,5 @@ OutcomeMeans words source source_now out out_now outcome = AreBuilt words × Per
 -- so many bytes passed, and the outcome means what it says
 pub record IsAnswered (words : List (List ℕ)) (source source_now : SourceState) (out out_now : SinkState) (outcome : Outcome) : Type 0 where
   pub taken : HasTaken source source_now
+  pub kept : LeavesSource words source source_now
   pub means : OutcomeMeans words source source_now out out_now outcome

@@ -55,6 +55,10 @@ pub record IsReportedInPart (words : List (List ℕ)) (source source_now : Sourc
   pub is_front : IsFront words text front
   pub gives : GivesPieces out out_now front
 
+-- a job that reads no text leaves the source as it was
+abbrev pub LeavesSource : List (List ℕ) → SourceState → SourceState → Type 0
+LeavesSource words source source_now = (job : Job) → words_of words ≡ Ok job → (ReadsText job → ⊥) → source_now ≡ source
+
 -- the outcome tells a fault of the words exactly where they have it, and then the streams are as they were
 pub record TellsBadWords (words : List (List ℕ)) (outcome : Outcome) (source source_now : SourceState) (out out_now : SinkState)
     : Type 0 where

@@ -2,13 +2,14 @@
 
 ghost use Rattle.std.specs.Prelude.{◌≡◌, ◌<◌, ◌≤◌, ◌^◌, ◌↔◌, IsTrue, map, length};
 ghost use Rattle.std.specs.String.{string_bytes};
-ghost use Rattle.palp_engine.specs.Commands.{IsBuilt};
+ghost use Rattle.palp_engine.specs.Commands.{IsBuilt, ReadsText};
 ghost use Rattle.palp_engine.specs.Notes.{note_of as outcome_note, IsNoted};
-ghost use Rattle.palp_engine.specs.RunSteps.{IsAnswered, IsPerformed, IsStopped, outcome_unread};
-ghost use Rattle.palp_engine.specs.Runs.{HasTaken, TellsBadWords, TellsNotBuilt, IsDone, IsRefusal, IsReported, HasReadFault, HasWriteFault, IsReportedInPart, IsComplete};
+ghost use Rattle.palp_engine.specs.RunSteps.{IsAnswered, IsPerformed, IsStopped, IsGiven, outcome_unread};
+ghost use Rattle.palp_engine.specs.Runs.{HasTaken, LeavesSource, TellsBadWords, TellsNotBuilt, IsDone, IsRefusal, IsReported, HasReadFault, HasWriteFault, IsReportedInPart, IsComplete};
 ghost use Rattle.palp_engine.specs.declared.outcome.Outcome.TheVariants.{Done, ReadFault, WriteFault, NoMemory};
 
 use crate::Outcome;
+use crate::lists::list_outcome;
 use crate::session::{ItemFault, Session, report_item};
 use lattice_core::Refusal;
 use palp_input::{NextFault, Reader};
@@ -16,16 +17,17 @@ use palp_io::{Sink, Source};
 use palp_print::{Note, note_line};
 use palp_words::{Job, read_words};
 use std::alloc::Global;
+use weight_lists::{list_systems, sum_up};
 
-/// Whether the job is `poly`, the command that is built.
+/// Whether the job is built: every one but `nef` is.
 fn is_built(job: &Job) -> bool
     ensures { IsTrue result ↔ IsBuilt job.now }
 {
     match job {
         Job::Poly(_) => true,
         Job::Nef(_) => false,
-        Job::Cws(_) => false,
-        Job::Sweep(_) => false,
+        Job::Cws(_) => true,
+        Job::Sweep(_) => true,
     }
 }
 
@@ -84,7 +86,8 @@ fn stopped(number: u64, fault: ItemFault) -> Outcome
 
 /// Reports the items of the source, each before the next one is read, up to the first that is refused.
 fn report<S: Source, O: Sink>(alloc: Global, job: &Job, src: &mut S, out: &mut O) -> Outcome
-    requires { IsBuilt job.now }
+    requires built { IsBuilt job.now }
+    requires reads { ReadsText job.now }
     ensures { IsPerformed job.now (S.state src.old) (S.state src.new) (O.state out.old) (O.state out.new) result }
 {
     let Ok(mut session) = Session::open(alloc) else {
@@ -105,13 +108,27 @@ fn report<S: Source, O: Sink>(alloc: Global, job: &Job, src: &mut S, out: &mut O
     }
 }
 
+/// Does the job that some words give.
+fn perform<S: Source, O: Sink>(alloc: Global, job: &Job, src: &mut S, out: &mut O) -> Outcome
+    requires built { IsBuilt job.now }
+    requires given { IsGiven job.now }
+    ensures { IsPerformed job.now (S.state src.old) (S.state src.new) (O.state out.old) (O.state out.new) result }
+{
+    match job {
+        Job::Poly(_) => report(alloc, job, src, out),
+        Job::Nef(_) => report(alloc, job, src, out),
+        Job::Cws(words) => list_outcome(list_systems(alloc, words, out)),
+        Job::Sweep(words) => list_outcome(sum_up(alloc, words, out)),
+    }
+}
+
 /// Does what the words say, but for the note.
 fn answer<S: Source, O: Sink>(alloc: Global, words: &[String], src: &mut S, out: &mut O) -> Outcome
     requires { length words.now < 2 ^ 31 }
     ensures { IsAnswered (map string_bytes words.now) (S.state src.old) (S.state src.new) (O.state out.old) (O.state out.new) result }
 {
     match read_words(words) {
-        Ok(job) if is_built(&job) => report(alloc, &job, src, out),
+        Ok(job) if is_built(&job) => perform(alloc, &job, src, out),
         Ok(_) => Outcome::NotBuilt,
         Err(fault) => Outcome::BadWords(fault),
     }
@@ -126,10 +143,17 @@ fn answer<S: Source, O: Sink>(alloc: Global, words: &[String], src: &mut S, out:
 /// points of the dual of a reflexive polytope, `i` the numbers of faces and which vertices lie on which facets, and `a` all of these but `i`. With
 /// `D` the dual of a reflexive polytope takes its place in all of this, and with `r` nothing is printed of a polytope that isn't reflexive.
 /// `Done` comes where the whole report was given. `Refused` tells the first item that exceeds a limit (docs/limits.md) or is flat, `BadText` the first fault of the
-/// text, and `TextLimit` a text of more than 67,108,864 bytes; the items before are reported. Other commands are `NotBuilt`, and words that
-/// give none are `BadWords`; nothing is read then. `ReadFault` and `WriteFault` come only where the count of faults of the source, or of
-/// `out`, rose in this call; `NoMemory` may come at any step of `poly`. At most 67,108,865 bytes are taken. Where the report is
-/// empty nothing is given to `out`. For each outcome but `Done` the outcome's note line is given to `notes`, or a front of it where the count
+/// text, and `TextLimit` a text of more than 67,108,864 bytes; the items before are reported.
+///
+/// `cws` and `sweep` read nothing, and leave the source as it was. They go through the interior-point weight systems of a range
+/// (math/0204356), by degree and then by weights. `cws` gives a line for each of them, and with `-r` for each whose polytope is reflexive, and then
+/// the line of their number; `sweep` gives one line: how many there are, how many have a reflexive polytope, and the sums of the numbers of lattice
+/// points of all polytopes and of the duals of the reflexive ones. With `-r` and in `sweep` a system is refused as its weight line is, and its
+/// number is its place in the list of all systems of the range.
+///
+/// `nef` is `NotBuilt`, and words that give no job are `BadWords`; nothing is read then. `ReadFault` and `WriteFault` come only where the count of
+/// faults of the source, or of `out`, rose in this call; `NoMemory` may come at any step of a job. At most 67,108,865 bytes are taken. Where the
+/// report is empty nothing is given to `out`. For each outcome but `Done` the outcome's note line is given to `notes`, or a front of it where the count
 /// of faults of `notes` rose, which changes nothing else.
 ///
 /// The text is what the source had left. Of a source that doesn't tell that, as a real stream, it is the bytes that passed: the clauses say
@@ -150,6 +174,9 @@ pub fn run<S: Source, O: Sink, N: Sink>(
     // read or given then.
     ensures bad_words { TellsBadWords (map string_bytes words.now) result (S.state src.old) (S.state src.new) (O.state out.old) (O.state out.new) }
     ensures not_built { TellsNotBuilt (map string_bytes words.now) result (S.state src.old) (S.state src.new) (O.state out.old) (O.state out.new) }
+
+    // A job that reads no text, as `cws` and `sweep`, leaves the source as it was.
+    ensures source_kept { LeavesSource (map string_bytes words.now) (S.state src.old) (S.state src.new) }
 
     // With `Done` the report was appended, whole, and the source was read to its end where the job reads a text, as `poly` does.
     ensures done { result ≡ Done → IsDone (map string_bytes words.now) (S.state src.old) (S.state src.new) (O.state out.old) (O.state out.new) }

@@ -10,6 +10,7 @@ mod blocks;
 mod command;
 mod faces;
 mod laws;
+mod lists;
 mod outcome;
 mod pieces;
 mod polytopes;

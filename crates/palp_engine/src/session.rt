@@ -4,7 +4,7 @@ ghost use Rattle.std.specs.Prelude.{◌≡◌};
 ghost use Rattle.palp_words.specs.declared.job.Job.TheVariants as Job;
 ghost use Rattle.palp_input.specs.Grammar.{listed};
 ghost use Rattle.palp_input.specs.Items.{IsItem};
-ghost use Rattle.palp_engine.specs.Commands.{IsBuilt};
+ghost use Rattle.palp_engine.specs.Commands.{IsBuilt, ReadsText};
 ghost use Rattle.palp_engine.specs.Entries.{item_entry};
 ghost use Rattle.palp_engine.specs.Sessions.{EntryMeans};
 
@@ -67,9 +67,10 @@ impl Session {
     }
 }
 
-/// The letters of a job that is built.
+/// The letters of a job that is built and reads a text.
 fn letters_of(job: &Job) -> PolyFlags
-    requires { IsBuilt job.now }
+    requires built { IsBuilt job.now }
+    requires reads { ReadsText job.now }
     ensures { job.now ≡ Job.Poly result }
 {
     match job {
@@ -95,6 +96,7 @@ pub fn report_item<O: Sink>(
     out: &mut O,
 ) -> Result<(), ItemFault>
     requires job { IsBuilt job.now }
+    requires reads { ReadsText job.now }
     requires item { IsItem (listed item.now) }
     ensures { EntryMeans result job.now (item_entry item.now) (O.state out.old) (O.state out.new) }
 {

@@ -10,6 +10,8 @@ mod duals;
 #[cfg(test)]
 mod faces;
 #[cfg(test)]
+mod lists;
+#[cfg(test)]
 mod runs;
 #[cfg(test)]
 mod streams;

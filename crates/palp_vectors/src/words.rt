@@ -36,8 +36,6 @@ fn wrong_words_are_told(rt: HostRuntime) -> Result<(), Fail> {
         wrong_words(&["nef", "-cx"], "palp: word 2: Number\n"),
         wrong_words(&["poly", "-nD"], "palp: word 2: Conflict\n"),
         not_built(&["nef"]),
-        not_built(&["cws", "-w2", "3", "6"]),
-        not_built(&["sweep", "2", "3", "6"]),
         Case {
             words: &["poly", "-ng", "-n"],
             ..done(TRIANGLE, "M:11 3 F:3\n")

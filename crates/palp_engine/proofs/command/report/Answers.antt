@@ -18,12 +18,12 @@ loop-item-init g c = run_nothing c.args.job.now _ c.new-reader.result _ c.new-re
 
 pub returns-in-Ok-None : goal.returns-in-Ok-None
 returns-in-Ok-None g c =
-    run_done c.args.job.now c.requires _ _ _ c.loop-item.reader c.next_item.new.self _ _ c.loop-item.number c.loop-item.invariant
+    run_done c.args.job.now c.requires.reads _ _ _ c.loop-item.reader c.next_item.new.self _ _ c.loop-item.number c.loop-item.invariant
     (told c.in-Ok-None.field-0 None c.loop-item.reader c.next_item.new.self _ _ c.in-Ok-None.field-0-is c.in-Ok-None.ensures)
 
 pub returns-in-Err : goal.returns-in-Err
 returns-in-Err g c =
-    run_unread c.args.job.now c.requires _ _ _ c.loop-item.reader c.next_item.new.self _ _ c.loop-item.number c.loop-item.invariant
+    run_unread c.args.job.now c.requires.reads _ _ _ c.loop-item.reader c.next_item.new.self _ _ c.loop-item.number c.loop-item.invariant
     c.in-Err.fault c.unread.result c.unread.ensures c.in-Err.ensures
 
 pub report_item-requires-clause-item : goal.report_item-requires-clause-item
@@ -34,7 +34,7 @@ report_item-requires-clause-item g c =
 
 pub returns-in-Err-report_item : goal.returns-in-Err-report_item
 returns-in-Err-report_item g c =
-    run_stopped c.args.job.now c.requires _ _ _ c.loop-item.reader c.next_item.new.self _ _ c.loop-item.number c.loop-item.invariant
+    run_stopped c.args.job.now c.requires.reads _ _ _ c.loop-item.reader c.next_item.new.self _ _ c.loop-item.number c.loop-item.invariant
     c.in-Ok-Some.item
     (told c.in-Ok-Some.field-0 (Some c.in-Ok-Some.item) c.loop-item.reader c.next_item.new.self _ _ c.in-Ok-Some.field-0-is
     c.in-Ok-Some.ensures)
@@ -42,7 +42,7 @@ returns-in-Err-report_item g c =
 
 pub loop-item-preserved-in_default-report_item : goal.loop-item-preserved-in_default-report_item
 loop-item-preserved-in_default-report_item g c =
-    run_next c.args.job.now c.requires _ _ _ c.loop-item.reader c.next_item.new.self _ _ c.loop-item.number c.loop-item.invariant
+    run_next c.args.job.now c.requires.reads _ _ _ c.loop-item.reader c.next_item.new.self _ _ c.loop-item.number c.loop-item.invariant
     c.in-Ok-Some.item
     (told c.in-Ok-Some.field-0 (Some c.in-Ok-Some.item) c.loop-item.reader c.next_item.new.self _ _ c.in-Ok-Some.field-0-is
     c.in-Ok-Some.ensures)
@@ -50,7 +50,7 @@ loop-item-preserved-in_default-report_item g c =
 
 pub loop-item-preserved : goal.loop-item-preserved
 loop-item-preserved g c =
-    run_next c.args.job.now c.requires _ _ _ c.loop-item.reader c.next_item.new.self _ _ c.loop-item.number c.loop-item.invariant
+    run_next c.args.job.now c.requires.reads _ _ _ c.loop-item.reader c.next_item.new.self _ _ c.loop-item.number c.loop-item.invariant
     c.in-Ok-Some.item
     (told c.in-Ok-Some.field-0 (Some c.in-Ok-Some.item) c.loop-item.reader c.next_item.new.self _ _ c.in-Ok-Some.field-0-is
     c.in-Ok-Some.ensures)

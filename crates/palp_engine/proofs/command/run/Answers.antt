@@ -14,6 +14,9 @@ pub returns-in-Some-clause-not_built : goal.returns-in-Some-clause-not_built
 returns-in-Some-clause-not_built g c =
     tells_not_built (map (λ w. string_bytes w) c.args.words.now) _ _ _ _ c.answer-outcome.result c.answer-outcome.ensures
 
+pub returns-in-Some-clause-source_kept : goal.returns-in-Some-clause-source_kept
+returns-in-Some-clause-source_kept g c = c.answer-outcome.ensures.kept
+
 pub returns-in-Some-clause-done : goal.returns-in-Some-clause-done
 returns-in-Some-clause-done g c =
     is_done (map (λ w. string_bytes w) c.args.words.now) _ _ _ _ c.answer-outcome.result c.answer-outcome.ensures
