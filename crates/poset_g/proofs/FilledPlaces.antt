@@ -140,7 +140,8 @@ module _ (table : TableState) (s : PlacesState) (places : ArePlaces (numbered ta
           within : 8 * place + cond w.dual 4 0 + w.degree < length values
           within = let k = number_small w l in omega arith
 
-          at : (8 * n.0 + cond p.dual 4 0 + p.degree ≡ 8 * place + cond w.dual 4 0 + w.degree) ⊎ (8 * n.0 + cond p.dual 4 0 + p.degree ≢ 8 * place + cond w.dual 4 0 + w.degree)
+          at : (8 * n.0 + cond p.dual 4 0 + p.degree ≡ 8 * place + cond w.dual 4 0 + w.degree) ⊎
+              (8 * n.0 + cond p.dual 4 0 + p.degree ≢ 8 * place + cond w.dual 4 0 + w.degree)
               → (kept_at s (set values (8 * place + cond w.dual 4 0 + w.degree) value) p ≡ coefficient table p) × (nat_abs (coefficient table p) ≤ 4096)
           at (inl same) =
               let q = number_places n.0 place (number_of p) (number_of w) (number_small p d) (number_small w l) (let t = same in omega arith) in

@@ -1,6 +1,9 @@
 -- Coefficients that are there, interval by interval, row by row, and by the difference of ranks.
-use Rattle.std.proofs.Common.{◌≡◌, ◌≢◌, ◌⊎◌, inl, inr, ℕ, ◌+◌, ◌<◌, ◌≤◌, List, length, ℤ, nat_abs, sym, ap, ◌∙◌, subst, arith}
+use Rattle.std.proofs.Common.{◌≡◌, ◌≢◌, ◌⊎◌, inl, inr, ℕ, ◌+◌, ◌*◌, ◌<◌, ◌≤◌, Bool, true, false, cond, List, length, ℤ, pos, nat_abs, sym, ap, ◌∙◌, subst, arith}
+use Rattle.std.proofs.Math.ListN.{set}
 use Rattle.std.proofs.lemmas.Bool.{cases_lt}
+use Rattle.std.proofs.lemmas.List.{length-set, get_or-set_same, get_or-set_other}
+use Rattle.lattice_theory.specs.Vector.{entry}
 use Rattle.face_poset.specs.Faces.{TableState, face_at}
 use Rattle.poset_g.specs.Numbered.{numbered, IsInterval, HasAllFaces, HasSmallRanks}
 use Rattle.poset_g.specs.Stored.{PlacesState, find_at}
@@ -10,11 +13,30 @@ use Rattle.poset_g.specs.FillSteps.{number_of, kept_at, IsReached, AreFilled, Ca
 use Rattle.poset_g.proofs.IntervalNumbers.{not_found}
 use Rattle.poset_g.proofs.Terms.{rank_up, rank_small}
 use Rattle.poset_g.proofs.NumberedFaces.{not_behind}
-use Rattle.poset_g.proofs.FilledPlaces.{number_small}
+use Rattle.poset_g.proofs.FilledPlaces.{same_or_not, number_small}
 
--- as many values
-pub can_fill_same : (table : TableState) (s : PlacesState) (values new : List ℤ) → CanFill table s values → length new ≡ length values → CanFill table s new
-can_fill_same table s values new c e = record { faces = c.faces; ranks = c.ranks; places = c.places; few = c.few; many = e ∙ c.many }
+-- one small value more
+pub can_fill_set : (table : TableState) (s : PlacesState) (values : List ℤ) (i : ℕ) (value : ℤ) → CanFill table s values → i < length values → nat_abs value ≤ 4096
+    → CanFill table s (set values i value)
+can_fill_set table s values i value c l h = record {
+  faces = c.faces;
+  ranks = c.ranks;
+  places = c.places;
+  few = c.few;
+  kept = record { many = length-set values i value ∙ c.kept.many; small = λ j. by j (same_or_not j i) };
+}
+  where
+    by : (j : ℕ) → (j ≡ i) ⊎ (j ≢ i) → nat_abs (entry (set values i value) j) ≤ 4096
+    by j (inl e) = let f = ap nat_abs (ap (entry (set values i value)) e ∙ get_or-set_same values i value (pos 0) l) in omega arith
+    by j (inr n) = let f = ap nat_abs (get_or-set_other values i j value (pos 0) n) in let k = c.kept.small j in omega arith
+
+pub can_fill_told : (table : TableState) (s : PlacesState) (values : List ℤ) (place first degree : ℕ) (dual : Bool) (value : ℤ) → CanFill table s values
+    → first ≡ cond dual 4 0 → degree ≤ 3 → place < s.total → nat_abs value ≤ 4096 → CanFill table s (set values (8 * place + first + degree) value)
+can_fill_told table s values place first degree dual value c e d l h = can_fill_set table s values (8 * place + first + degree) value c (by dual e) h
+  where
+    by : (b : Bool) → first ≡ cond b 4 0 → 8 * place + first + degree < length values
+    by true f = let m = c.kept.many in omega arith
+    by false f = let m = c.kept.many in omega arith
 
 -- the same under other names
 pub filled_at : (table : TableState) (s : PlacesState) (values : List ℤ) (x y n from to number : ℕ) → AreFilled table s values ((numbered table).gap x y) x y (n + 1)
@@ -25,7 +47,8 @@ pub filled_from : (table : TableState) (s : PlacesState) (values : List ℤ) (fr
     → x ≡ from → y ≡ to → n ≡ number → AreFilled table s values ((numbered table).gap x y) x y n
 filled_from table s values from to number x y n h e f g = rw (e, f, g) h
 
-pub filled_whole : (table : TableState) (s : PlacesState) (values : List ℤ) (gap from to n m : ℕ) → n ≡ m → AreFilled table s values gap from to n → AreFilled table s values gap from to m
+pub filled_whole : (table : TableState) (s : PlacesState) (values : List ℤ) (gap from to n m : ℕ) → n ≡ m → AreFilled table s values gap from to n
+    → AreFilled table s values gap from to m
 filled_whole table s values gap from to n m e h = subst (λ (k : ℕ). AreFilled table s values gap from to k) e h
 
 -- a new interval

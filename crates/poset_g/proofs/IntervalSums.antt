@@ -1,5 +1,6 @@
 -- The coefficients of G by one sum over an interval.
-use Rattle.std.proofs.Common.{◌≡◌, ◌≢◌, ◌⊎◌, inl, inr, ℕ, zero, suc, ◌*◌, ◌-◌, ◌<◌, ◌≤◌, ◌==◌, nat_lt, ◌&&◌, not, Bool, true, false, cond, length, ℤ, pos, negsuc, ◌*ℤ◌, neg_ℤ, refl, sym, ap, subst, ◌∙◌, eq-eqb, arith}
+use Rattle.std.proofs.Common.{◌≡◌, ◌≢◌, ◌⊎◌, inl, inr, ℕ, zero, suc, ◌*◌, ◌-◌, ◌<◌, ◌≤◌, ◌==◌, nat_lt, ◌&&◌, not, Bool, true, false, cond, length, ℤ}
+use Rattle.std.proofs.Common.{pos, negsuc, ◌*ℤ◌, neg_ℤ, refl, sym, ap, subst, ◌∙◌, eq-eqb, arith}
 use Rattle.std.proofs.lemmas.Bool.{and_parts, cases_Bool, le-ltb, lt-ltb, cond-true, cond-false, eqb-true}
 use Rattle.std.specs.List.{Contains, range_with_len}
 use Rattle.lattice_theory.proofs.Integers.{linear, one-*ℤ, minus_one-*ℤ, zero-*ℤ, *ℤ-zero}
@@ -100,7 +101,8 @@ module _ (table : TableState) (h : HasAllFaces table) where
         → sum_over (between s x y) (kept_term table (record { from = x; to = y; dual = false; degree = k }))
         ≡ sum_over (members_above (numbered table) x y) (λ z. product (power t_minus_1 ((numbered table).gap x z)) (g (numbered table) z y) k)
     between_above x y k l m = sum_filter (is_between s x y) (range_with_len 0 s.count) (kept_term table (record { from = x; to = y; dual = false; degree = k }))
-        ∙ ap (λ (n : ℕ). sum_over (range_with_len 0 n) (λ z. kept (is_between s x y z) (kept_term table (record { from = x; to = y; dual = false; degree = k }) z))) places.count_is
+        ∙ ap (λ (n : ℕ). sum_over (range_with_len 0 n) (λ z. kept (is_between s x y z) (kept_term table
+        (record { from = x; to = y; dual = false; degree = k }) z))) places.count_is
         ∙ sum_same_in (range_with_len 0 (length table.faces)) (λ z. kept (is_between s x y z) (kept_term table (record { from = x; to = y; dual = false; degree = k }) z))
         (λ z. kept (strictly (numbered table) x z && (numbered table).below z y) (product (power t_minus_1 ((numbered table).gap x z)) (g (numbered table) z y) k))
         (λ z i. at z (number_within (length table.faces) z (contains_from_in i)))
@@ -119,15 +121,18 @@ module _ (table : TableState) (h : HasAllFaces table) where
         → sum_over (between s x y) (kept_term table (record { from = x; to = y; dual = true; degree = k }))
         ≡ sum_over (members_above (upside_down (numbered table)) y x) (λ z. product (power t_minus_1 ((numbered table).gap z y)) (g_dual (numbered table) x z) k)
     between_below x y k l m = sum_filter (is_between s x y) (range_with_len 0 s.count) (kept_term table (record { from = x; to = y; dual = true; degree = k }))
-        ∙ ap (λ (n : ℕ). sum_over (range_with_len 0 n) (λ z. kept (is_between s x y z) (kept_term table (record { from = x; to = y; dual = true; degree = k }) z))) places.count_is
+        ∙ ap (λ (n : ℕ). sum_over (range_with_len 0 n) (λ z. kept (is_between s x y z) (kept_term table
+        (record { from = x; to = y; dual = true; degree = k }) z))) places.count_is
         ∙ sum_same_in (range_with_len 0 (length table.faces)) (λ z. kept (is_between s x y z) (kept_term table (record { from = x; to = y; dual = true; degree = k }) z))
-        (λ z. kept (strictly (upside_down (numbered table)) y z && (numbered table).below x z) (product (power t_minus_1 ((numbered table).gap z y)) (g_dual (numbered table) x z) k))
+        (λ z. kept (strictly (upside_down (numbered table)) y z && (numbered table).below x z) (product (power t_minus_1 ((numbered table).gap z y))
+        (g_dual (numbered table) x z) k))
         (λ z i. at z (number_within (length table.faces) z (contains_from_in i)))
         ∙ sym (sum_filter (λ z. strictly (upside_down (numbered table)) y z && (numbered table).below x z) (range_with_len 0 (length table.faces))
         (λ z. product (power t_minus_1 ((numbered table).gap z y)) (g_dual (numbered table) x z) k))
       where
         at : (z : ℕ) → z < length table.faces → kept (is_between s x y z) (kept_term table (record { from = x; to = y; dual = true; degree = k }) z)
-            ≡ kept (strictly (upside_down (numbered table)) y z && (numbered table).below x z) (product (power t_minus_1 ((numbered table).gap z y)) (g_dual (numbered table) x z) k)
+            ≡ kept (strictly (upside_down (numbered table)) y z && (numbered table).below x z) (product (power t_minus_1 ((numbered table).gap z y))
+            (g_dual (numbered table) x z) k)
         at z n = ap (λ (b : Bool). kept b (kept_term table (record { from = x; to = y; dual = true; degree = k }) z))
             (between_is table s places x y z l m n ∙ other_way ((numbered table).below x z) ((numbered table).below z y))
             ∙ dropped ((numbered table).below z y) ((numbered table).below x z) (z == y) ((numbered table).below y z)
@@ -157,7 +162,8 @@ module _ (table : TableState) (h : HasAllFaces table) where
     where
       by : (d : Bool) → polynomial table d p.from p.to p.degree ≡ pos 0
       by false = high (numbered table) graded p.from p.to p.degree (member p.from i.from) (member p.to i.to) (strict p.from p.to i n) l
-      by true = high (upside_down (numbered table)) (graded_down (numbered table) graded) p.to p.from p.degree (member p.to i.to) (member p.from i.from) (strict p.from p.to i n) l
+      by true = high (upside_down (numbered table)) (graded_down (numbered table) graded) p.to p.from p.degree (member p.to i.to)
+          (member p.from i.from) (strict p.from p.to i n) l
 
   pub same_at : (p : Place) → p.from < length table.faces → p.from ≡ p.to → coefficient table p ≡ one p.degree
   same_at p l e = by p.dual

@@ -8,3 +8,4 @@ pub mod Terms
 pub mod FilledPlaces
 pub mod FilledRows
 pub mod MadeTables
+pub mod IntervalTerms

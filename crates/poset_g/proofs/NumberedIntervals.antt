@@ -45,7 +45,8 @@ module _ (o : Order ℕ) (count row column total : ℕ) (table : List ℕ) (plac
     where
       by : (i < length table) ⊎ (length table ≤ i) → (i < length table + 1) ⊎ (length table + 1 ≤ i) → slice_index_or (table ++ v ∷ []) i 0 ≤ n
       by (inl l) d = let e = get_or-append table (v ∷ []) 0 i l in let m = places.within i in omega arith
-      by (inr l) (inl m) = let e : slice_index_or (table ++ v ∷ []) i 0 ≡ v = ap (λ (j : ℕ). slice_index_or (table ++ v ∷ []) j 0) (omega arith) ∙ get_or-append_seam table v [] 0 in omega arith
+      by (inr l) (inl m) = let e : slice_index_or (table ++ v ∷ []) i 0 ≡ v = ap (λ (j : ℕ). slice_index_or (table ++ v ∷ []) j 0) (omega arith)
+          ∙ get_or-append_seam table v [] 0 in omega arith
       by (inr l) (inr m) = let e = get_or_past (table ++ v ∷ []) i 0 (let f = length-append table (v ∷ []) in omega arith) in omega arith
 
   -- no interval at the next place

@@ -6,7 +6,9 @@ use Rattle.polynomial_theory.specs.Series.{power, t_minus_1}
 
 -- those of 1, t, t^2 and t^3, power by power
 abbrev pub powers : List ℤ
-powers = pos 1 ∷ pos 0 ∷ pos 0 ∷ pos 0 ∷ negsuc 0 ∷ pos 1 ∷ pos 0 ∷ pos 0 ∷ pos 1 ∷ negsuc 1 ∷ pos 1 ∷ pos 0 ∷ negsuc 0 ∷ pos 3 ∷ negsuc 2 ∷ pos 1 ∷ pos 1 ∷ negsuc 3 ∷ pos 6 ∷ negsuc 3 ∷ negsuc 0 ∷ pos 5 ∷ negsuc 9 ∷ pos 10 ∷ pos 1 ∷ negsuc 5 ∷ pos 15 ∷ negsuc 19 ∷ negsuc 0 ∷ pos 7 ∷ negsuc 20 ∷ pos 35 ∷ pos 1 ∷ negsuc 7 ∷ pos 28 ∷ negsuc 55 ∷ []
+powers = pos 1 ∷ pos 0 ∷ pos 0 ∷ pos 0 ∷ negsuc 0 ∷ pos 1 ∷ pos 0 ∷ pos 0 ∷ pos 1 ∷ negsuc 1 ∷ pos 1 ∷ pos 0 ∷ negsuc 0 ∷ pos 3 ∷ negsuc 2 ∷ pos 1
+    ∷ pos 1 ∷ negsuc 3 ∷ pos 6 ∷ negsuc 3 ∷ negsuc 0 ∷ pos 5 ∷ negsuc 9 ∷ pos 10 ∷ pos 1 ∷ negsuc 5 ∷ pos 15 ∷ negsuc 19 ∷ negsuc 0 ∷ pos 7
+    ∷ negsuc 20 ∷ pos 35 ∷ pos 1 ∷ negsuc 7 ∷ pos 28 ∷ negsuc 55 ∷ []
 
 abbrev pub IsPower : ℤ → ℕ → ℕ → Type 0
 IsPower z n a = (z ≡ power t_minus_1 n a) × (nat_abs z ≤ 56)

@@ -9,7 +9,7 @@ use Rattle.poset_g.specs.Stored.{PlacesState, find_at}
 use Rattle.poset_g.specs.FillSteps.{is_between}
 
 -- one number more
-range_more : (a n : ℕ) → range_with_len a (suc n) ≡ range_with_len a n ++ (a + n) ∷ []
+pub range_more : (a n : ℕ) → range_with_len a (suc n) ≡ range_with_len a n ++ (a + n) ∷ []
 range_more a zero = ap (λ (i : ℕ). i ∷ []) (omega arith)
 range_more a (suc n) = ap (λ (r : List ℕ). a ∷ r) (range_more (a + 1) n ∙ ap (λ (i : ℕ). range_with_len (a + 1) n ++ i ∷ []) (omega arith))
 
@@ -17,7 +17,8 @@ kept_one : (test : ℕ → Bool) (n : ℕ) (b : Bool) → test n ≡ b → filte
 kept_one test n b e = ap (λ (c : Bool). cond c (n ∷ []) []) e
 
 pub filter_more : (test : ℕ → Bool) (n : ℕ) (b : Bool) → test n ≡ b → filter test (range_with_len 0 (n + 1)) ≡ filter test (range_with_len 0 n) ++ cond b (n ∷ []) []
-filter_more test n b e = ap (λ (m : ℕ). filter test (range_with_len 0 m)) (same n) ∙ ap (filter test) (range_more 0 n ∙ ap (λ (i : ℕ). range_with_len 0 n ++ i ∷ []) (zero_plus n))
+filter_more test n b e = ap (λ (m : ℕ). filter test (range_with_len 0 m)) (same n) ∙ ap (filter test) (range_more 0 n
+    ∙ ap (λ (i : ℕ). range_with_len 0 n ++ i ∷ []) (zero_plus n))
     ∙ filter-append test (range_with_len 0 n) (n ∷ []) ∙ ap (λ (xs : List ℕ). filter test (range_with_len 0 n) ++ xs) (kept_one test n b e)
   where
     same : (n : ℕ) → n + 1 ≡ suc n

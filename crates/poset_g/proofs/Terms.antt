@@ -1,5 +1,6 @@
 -- The terms of which the coefficients are made, and their sums.
-use Rattle.std.proofs.Common.{◌≡◌, ◌≢◌, inl, ℕ, zero, suc, ◌+◌, ◌*◌, ◌-◌, ◌<◌, ◌≤◌, ◌==◌, nat_lt, Bool, true, false, cond, List, [], ◌∷◌, length, slice_index_or, ℤ, pos, ◌+ℤ◌, ◌*ℤ◌, ◌^◌, nat_abs, refl, eq-eqb, sym, ap, subst, ◌∙◌, arith}
+use Rattle.std.proofs.Common.{◌≡◌, ◌≢◌, inl, ℕ, zero, suc, ◌+◌, ◌*◌, ◌-◌, ◌<◌, ◌≤◌, ◌==◌, nat_lt, Bool, true, false, cond, List, [], ◌∷◌, length}
+use Rattle.std.proofs.Common.{slice_index_or, ℤ, pos, ◌+ℤ◌, ◌*ℤ◌, ◌^◌, nat_abs, refl, eq-eqb, sym, ap, subst, ◌∙◌, arith}
 use Rattle.std.proofs.lemmas.Bool.{lt-ltb, ne_eqb, cond-true, cond-false, and_parts}
 use Rattle.std.proofs.lemmas.Int.{ints}
 use Rattle.std.proofs.lemmas.List.Elements.{All-get_or, Contains-get_or}
@@ -101,7 +102,8 @@ module _ (table : TableState) (h : HasAllFaces table) where
       moved : Contains zs (slice_index_or zs i 0) → Contains (between s x y) (slice_index_or zs i 0)
       moved c = subst (λ (ws : List ℕ). Contains ws (slice_index_or zs i 0)) e c
 
-      by : IsKept (is_between s x y) (slice_index_or zs i 0) (range_with_len 0 s.count) → IsInterval table x (slice_index_or zs i 0) × IsInterval table (slice_index_or zs i 0) y
+      by : IsKept (is_between s x y) (slice_index_or zs i 0) (range_with_len 0 s.count)
+          → IsInterval table x (slice_index_or zs i 0) × IsInterval table (slice_index_or zs i 0) y
       by t =
           let n = number_within s.count (slice_index_or zs i 0) (contains_from_in t.member) in
           let w : slice_index_or zs i 0 < length table.faces = let f = places.count_is in omega arith in

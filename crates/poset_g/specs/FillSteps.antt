@@ -1,6 +1,7 @@
 -- How the coefficients are filled in. This project's own.
 use Rattle.std.specs.Prelude.{◌≡◌, ◌⊎◌, ℕ, ◌+◌, ◌*◌, ◌<◌, ◌≤◌, ◌==◌, nat_lt, ◌&&◌, Bool, true, false, cond, List, ℤ, pos, neg_ℤ, nat_abs, length}
 use Rattle.std.specs.List.{filter, range_with_len}
+use Rattle.lattice_theory.specs.Vector.{entry}
 use Rattle.polynomial_theory.specs.Sums.{sum_over}
 use Rattle.polynomial_theory.specs.Series.{Series, product, power, t_minus_1}
 use Rattle.face_closing.specs.declared.limits.TheConstants.{MOST_FACES}
@@ -40,13 +41,18 @@ kept_term table p z = cond (z == near p) (pos 0) (product (power t_minus_1 (step
 abbrev pub negative_sum : TableState → Place → List ℕ → ℤ
 negative_sum table p zs = neg_ℤ (sum_over zs (kept_term table p))
 
+-- so many intervals have eight coefficients each, none of which is large
+pub record AreKeptValues (total : ℕ) (values : List ℤ) : Type 0 where
+  pub many : length values ≡ 8 * total
+  pub small : (i : ℕ) → nat_abs (entry values i) ≤ MOST_COEFFICIENT
+
 -- what the work is done with: a table of faces with ranks up to 8, numbers for its intervals, and room for eight coefficients of each
 pub record CanFill (table : TableState) (s : PlacesState) (values : List ℤ) : Type 0 where
   pub faces : HasAllFaces table
   pub ranks : HasSmallRanks table
   pub places : ArePlaces (numbered table) (length table.faces) s
   pub few : s.count ≤ MOST_FACES
-  pub many : length values ≡ 8 * s.total
+  pub kept : AreKeptValues s.total values
 
 -- the place of a coefficient among the eight of its interval, and what is kept there
 abbrev pub number_of : Place → ℕ

@@ -8,3 +8,4 @@ pub mod Values
 pub mod Laws
 pub mod PlaceSteps
 pub mod FillSteps
+pub mod TermSteps

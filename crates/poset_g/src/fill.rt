@@ -36,8 +36,9 @@ fn fill_one(
     requires faces { faces.now ≡ between places.now wanted.from wanted.to }
     requires few { length faces.now ≤ MOST_FACES }
     requires filled { AreFilledTo table.now places.now values.old.items (place_of wanted) }
-    ensures many { length values.new.items ≡ length values.old.items }
-    ensures filled { IfOk result (λ done. AreFilled table.now places.now values.new.items ((numbered table.now).gap wanted.from wanted.to) wanted.from wanted.to (number_of (place_of wanted) + 1)) }
+    ensures ready { CanFill table.now places.now values.new.items }
+    ensures filled { IfOk result (λ done. AreFilled table.now places.now values.new.items
+        ((numbered table.now).gap wanted.from wanted.to) wanted.from wanted.to (number_of (place_of wanted) + 1)) }
     ensures fault { IfErr result (IsFault table.now) }
 {
     let value = value_of(table, places, values, faces, wanted);
@@ -93,7 +94,7 @@ fn fill_interval(
     requires found { find_at places.now from to ≡ suc place }
     requires within { place < places.now.total }
     requires filled { AreFilled table.now places.now values.old.items ((numbered table.now).gap from to) from to 0 }
-    ensures many { length values.new.items ≡ length values.old.items }
+    ensures ready { CanFill table.now places.now values.new.items }
     ensures filled { IfOk result (λ done. AreFilled table.now places.now values.new.items ((numbered table.now).gap from to) from to 8) }
     ensures fault { IfErr result (IsFault table.now) }
 {
@@ -126,7 +127,7 @@ fn fill_pair(
     requires from { from < length table.now.faces }
     requires to { to < length table.now.faces }
     requires filled { AreFilled table.now places.now values.old.items gap from to 0 }
-    ensures many { length values.new.items ≡ length values.old.items }
+    ensures ready { CanFill table.now places.now values.new.items }
     ensures filled { IfOk result (λ done. AreFilled table.now places.now values.new.items gap from (to + 1) 0) }
     ensures fault { IfErr result (IsFault table.now) }
 {
@@ -157,7 +158,7 @@ fn fill_from(
     requires gap { gap ≤ 8 }
     requires from { from < length table.now.faces }
     requires filled { AreFilled table.now places.now values.old.items gap from 0 0 }
-    ensures many { length values.new.items ≡ length values.old.items }
+    ensures ready { CanFill table.now places.now values.new.items }
     ensures filled { IfOk result (λ done. AreFilled table.now places.now values.new.items gap (from + 1) 0 0) }
     ensures fault { IfErr result (IsFault table.now) }
 {
@@ -178,7 +179,7 @@ fn fill_gap(
     requires ready { CanFill table.now places.now values.old.items }
     requires gap { gap ≤ 8 }
     requires filled { AreFilled table.now places.now values.old.items gap 0 0 0 }
-    ensures many { length values.new.items ≡ length values.old.items }
+    ensures ready { CanFill table.now places.now values.new.items }
     ensures filled { IfOk result (λ done. AreFilled table.now places.now values.new.items (gap + 1) 0 0 0) }
     ensures fault { IfErr result (IsFault table.now) }
 {
@@ -196,7 +197,7 @@ pub(crate) fn fill(
     values: &mut Vec<i64>,
 ) -> Result<(), GFault>
     requires ready { CanFill table.now places.now values.old.items }
-    ensures many { length values.new.items ≡ length values.old.items }
+    ensures ready { CanFill table.now places.now values.new.items }
     ensures filled { IfOk result (λ done. AreFilled table.now places.now values.new.items 9 0 0 0) }
     ensures fault { IfErr result (IsFault table.now) }
 {

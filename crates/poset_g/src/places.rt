@@ -55,7 +55,8 @@ fn add_row(
     requires faces { HasAllFaces table.now }
     requires row { row < length table.now.faces }
     requires before { ArePlacesTo (numbered table.now) (length table.now.faces) row 0 (record { count = length table.now.faces; total = before; table = places.old.items }) }
-    ensures done { IfOk result (λ total. ArePlacesTo (numbered table.now) (length table.now.faces) (row + 1) 0 (record { count = length table.now.faces; total = total; table = places.new.items })) }
+    ensures done { IfOk result (λ total. ArePlacesTo (numbered table.now) (length table.now.faces) (row + 1) 0
+        (record { count = length table.now.faces; total = total; table = places.new.items })) }
     ensures fault { IfErr result (λ fault. fault ≡ GFault.NoMemory) }
 {
     let mut total = before;

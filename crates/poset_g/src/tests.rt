@@ -60,3 +60,24 @@ fn g_of_the_octahedron(rt: HostRuntime) -> Result<(), Fail> {
     assert_eq!(rt; begins(&values.g(27, 0)), (0, 0, 0));
     Ok(())
 }
+
+#[test]
+fn b_of_the_octahedron(rt: HostRuntime) -> Result<(), Fail> {
+    let table = octahedron(rt.alloc())?;
+    if table.len() < 28 {
+        return Err(Fail::new("28 faces"));
+    }
+    if !table.below(0, 27) {
+        return Err(Fail::new("an interval"));
+    }
+    let values = match GTable::of(rt.alloc(), &table) {
+        Ok(values) => values,
+        Err(_) => return Err(Fail::new("small coefficients")),
+    };
+    let b = values.b(&table, 0, 27);
+    assert_eq!(rt; (b.coefficient(0, 0), b.coefficient(1, 1)), (1, 2));
+    assert_eq!(rt; (b.coefficient(1, 0), b.coefficient(2, 1)), (-6, -6));
+    assert_eq!(rt; (b.coefficient(2, 0), b.coefficient(3, 1)), (12, 4));
+    assert_eq!(rt; (b.coefficient(3, 0), b.coefficient(4, 0)), (-8, 1));
+    Ok(())
+}

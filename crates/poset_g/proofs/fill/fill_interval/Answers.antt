@@ -1,8 +1,8 @@
-use Rattle.std.proofs.Common.{◌≡◌, ◌∙◌, arith}
+use Rattle.std.proofs.Common.{◌≡◌, arith}
 use Rattle.poset_g.specs.Numbered.{numbered}
 use Rattle.poset_g.specs.FillSteps.{number_of, place_of}
 use Rattle.poset_g.proofs.IntervalNumbers.{found_behind}
-use Rattle.poset_g.proofs.FilledRows.{can_fill_same, filled_at, filled_from, filled_whole}
+use Rattle.poset_g.proofs.FilledRows.{filled_at, filled_from, filled_whole}
 use Rattle.poset_g.proofs.fill.fill_interval.Goals as goal
 
 pub find_between-requires-clause-lower : goal.find_between-requires-clause-lower
@@ -12,7 +12,8 @@ pub find_between-requires-clause-upper : goal.find_between-requires-clause-upper
 find_between-requires-clause-upper c z p e = found_behind c.args.table.now c.args.places.now c.requires.ready.places c.requires.ready.faces z c.args.to p e
 
 pub find_between-requires-clause-order : goal.find_between-requires-clause-order
-find_between-requires-clause-order c = found_behind c.args.table.now c.args.places.now c.requires.ready.places c.requires.ready.faces c.args.from c.args.to c.args.place c.requires.found
+find_between-requires-clause-order c = found_behind c.args.table.now c.args.places.now c.requires.ready.places c.requires.ready.faces c.args.from
+    c.args.to c.args.place c.requires.found
 
 pub fill_one-requires-clause-filled : goal.fill_one-requires-clause-filled
 fill_one-requires-clause-filled c = filled_from c.args.table.now c.args.places.now c.loop-number.values.items c.args.from c.args.to c.loop-number.number
@@ -21,8 +22,7 @@ fill_one-requires-clause-filled c = filled_from c.args.table.now c.args.places.n
 
 pub loop-number-preserved : goal.loop-number-preserved
 loop-number-preserved c = record {
-  ready = can_fill_same c.args.table.now c.args.places.now c.loop-number.values.items c.fill_one.new.values.items c.loop-number.invariant.ready c.fill_one.ensures.many;
-  many = c.fill_one.ensures.many ∙ c.loop-number.invariant.many;
+  ready = c.fill_one.ensures.ready;
   filled = filled_at c.args.table.now c.args.places.now c.fill_one.new.values.items c.wanted_at.result.from c.wanted_at.result.to
       (number_of (place_of c.wanted_at.result)) c.args.from c.args.to c.loop-number.number c.in_ok-fill_one.ensures.filled
       c.wanted_at.ensures.from c.wanted_at.ensures.to c.wanted_at.ensures.number;
@@ -31,7 +31,8 @@ loop-number-preserved c = record {
 }
 
 pub returns-clause-filled : goal.returns-clause-filled
-returns-clause-filled c = filled_whole c.args.table.now c.args.places.now c.loop-number.values.items ((numbered c.args.table.now).gap c.args.from c.args.to) c.args.from c.args.to
+returns-clause-filled c = filled_whole c.args.table.now c.args.places.now c.loop-number.values.items
+    ((numbered c.args.table.now).gap c.args.from c.args.to) c.args.from c.args.to
     c.loop-number.number 8 (ended c) c.loop-number.invariant.filled
   where
     ended : (c : goal.After-loop-number) → c.loop-number.number ≡ 8

@@ -6,7 +6,6 @@ use Rattle.poset_g.proofs.fill.fill_interval.Given as goal
 abbrev pub invariant-loop-number : goal.invariant-loop-number
 invariant-loop-number l = record {
   ready : CanFill l.table l.places l.values.items;
-  many : length l.values.items ≡ length l.initial.values.items;
   filled : AreFilled l.table l.places l.values.items ((numbered l.table).gap l.from l.to) l.from l.to l.number;
   faces : l.faces.items ≡ between l.places l.from l.to;
   few : length l.faces.items ≤ 4096;

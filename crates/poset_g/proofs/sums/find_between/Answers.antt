@@ -7,7 +7,8 @@ use Rattle.poset_g.proofs.sums.find_between.Goals as goal
 
 pub loop-face-init : goal.loop-face-init
 loop-face-init c = record {
-  faces = c.clear.ensures.items ∙ sym (filter_none (is_between c.args.places.now c.args.from c.args.to) c.args.from (none_before c.args.places.now c.args.from c.args.to c.requires.lower));
+  faces = c.clear.ensures.items ∙ sym (filter_none (is_between c.args.places.now c.args.from c.args.to) c.args.from
+      (none_before c.args.places.now c.args.from c.args.to c.requires.lower));
   few = let e = ap length c.clear.ensures.items in omega arith;
 }
 

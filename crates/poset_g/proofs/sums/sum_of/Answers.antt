@@ -14,11 +14,13 @@ loop-i-init c = record {
 }
 
 pub term_of-sum-requires-clause-first : goal.term_of-sum-requires-clause-first
-term_of-sum-requires-clause-first c = (inside_at c.args.table.now c.requires.ready.faces c.args.places.now c.requires.ready.places c.args.wanted.from c.args.wanted.to c.loop-i.i
+term_of-sum-requires-clause-first c = (inside_at c.args.table.now c.requires.ready.faces c.args.places.now c.requires.ready.places c.args.wanted.from
+    c.args.wanted.to c.loop-i.i
     c.requires.interval.from c.requires.interval.to c.args.faces.now c.requires.faces c.loop-i-test.true).0
 
 pub term_of-sum-requires-clause-second : goal.term_of-sum-requires-clause-second
-term_of-sum-requires-clause-second c = (inside_at c.args.table.now c.requires.ready.faces c.args.places.now c.requires.ready.places c.args.wanted.from c.args.wanted.to c.loop-i.i
+term_of-sum-requires-clause-second c = (inside_at c.args.table.now c.requires.ready.faces c.args.places.now c.requires.ready.places
+    c.args.wanted.from c.args.wanted.to c.loop-i.i
     c.requires.interval.from c.requires.interval.to c.args.faces.now c.requires.faces c.loop-i-test.true).1
 
 pub loop-i-preserved : goal.loop-i-preserved

@@ -6,6 +6,7 @@ use Rattle.poset_g.proofs.sums.sum_of.Given as goal
 
 abbrev pub invariant-loop-i : goal.invariant-loop-i
 invariant-loop-i l = record {
-  sum : l.sum +ℤ sum_from (length l.faces - l.i) l.i (λ j. kept_term l.table (place_of l.wanted) (slice_index_or l.faces j 0)) ≡ sum_over l.faces (kept_term l.table (place_of l.wanted));
+  sum : l.sum +ℤ sum_from (length l.faces - l.i) l.i (λ j. kept_term l.table (place_of l.wanted) (slice_index_or l.faces j 0)) ≡ sum_over l.faces
+      (kept_term l.table (place_of l.wanted));
   size : nat_abs l.sum ≤ l.i * 1048576;
 }

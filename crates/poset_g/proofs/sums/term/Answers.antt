@@ -15,7 +15,8 @@ loop-a-init c = record {
   size = omega arith;
 }
 
-product_is : (c : After-product_of-sum) → c.product_of-sum.result ≡ power t_minus_1 c.args.n c.loop-a.a *ℤ entry c.args.values.now (c.args.first + (c.args.degree - c.loop-a.a))
+product_is : (c : After-product_of-sum) → c.product_of-sum.result ≡ power t_minus_1 c.args.n c.loop-a.a *ℤ entry c.args.values.now (c.args.first +
+    (c.args.degree - c.loop-a.a))
 product_is c =
     let first : SFits w64 c.power_of.result = search rules in
     let second : SFits w64 (entry c.args.values.now (c.args.first + (c.args.degree - c.loop-a.a))) = search rules in

@@ -13,7 +13,8 @@ overflow_sub-upper c = let r = rank_up c.args.table.now c.requires.ready.faces c
     let e = c.rank-upper.ensures in let f = c.rank-lower.ensures in omega arith
 
 pub term-requires-clause-small : goal.term-requires-clause-small
-term-requires-clause-small c b l = (above_values c.args.table.now c.requires.ready.faces c.args.places.now c.args.values.now c.args.wanted.from c.args.wanted.to c.args.face c.args.wanted.degree c.in-Some.place
+term-requires-clause-small c b l = (above_values c.args.table.now c.requires.ready.faces c.args.places.now c.args.values.now c.args.wanted.from
+    c.args.wanted.to c.args.face c.args.wanted.degree c.in-Some.place
     c.requires.filled c.requires.first c.requires.second c.if-face-wanted.false c.in-Some.ensures.0 c.requires.degree b l).1
 
 pub returns-in-Some-clause-value : goal.returns-in-Some-clause-value
@@ -21,7 +22,9 @@ returns-in-Some-clause-value c =
     let fits : SFits w64 c.term.result = search rules in
     simp to_z-of_z (c.term.ensures.value
     ∙ product_same_to (power t_minus_1 (c.rank-upper.result - c.rank-lower.result)) (λ b. entry c.args.values.now (8 * c.in-Some.place + 4 + b))
-    (g_dual (numbered c.args.table.now) c.args.wanted.from c.args.face) c.args.wanted.degree (λ b l. (above_values c.args.table.now c.requires.ready.faces c.args.places.now c.args.values.now c.args.wanted.from c.args.wanted.to c.args.face c.args.wanted.degree c.in-Some.place
+    (g_dual (numbered c.args.table.now) c.args.wanted.from c.args.face) c.args.wanted.degree (λ b l.
+    (above_values c.args.table.now c.requires.ready.faces c.args.places.now c.args.values.now c.args.wanted.from c.args.wanted.to c.args.face
+    c.args.wanted.degree c.in-Some.place
     c.requires.filled c.requires.first c.requires.second c.if-face-wanted.false c.in-Some.ensures.0 c.requires.degree b l).0)
     ∙ ap (λ (n : ℕ). product (power t_minus_1 n) (g_dual (numbered c.args.table.now) c.args.wanted.from c.args.face) c.args.wanted.degree)
     (gap_is c)

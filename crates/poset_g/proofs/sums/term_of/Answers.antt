@@ -8,4 +8,5 @@ pub returns-else-wanted-clause-value : goal.returns-else-wanted-clause-value
 returns-else-wanted-clause-value c =
     let fits : SFits w64 c.term_below.result = search rules in
     simp to_z-of_z (c.term_below.ensures.value
-    ∙ ap (λ (d : Bool). kept_term c.args.table.now (record { from = c.args.wanted.from; to = c.args.wanted.to; dual = d; degree = c.args.wanted.degree }) c.args.face) (sym c.if-wanted.false))
+    ∙ ap (λ (d : Bool). kept_term c.args.table.now
+    (record { from = c.args.wanted.from; to = c.args.wanted.to; dual = d; degree = c.args.wanted.degree }) c.args.face) (sym c.if-wanted.false))
