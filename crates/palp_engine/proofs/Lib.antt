@@ -12,6 +12,7 @@ pub mod SingleEnded
 pub mod TextReadings
 pub mod EndedItems
 pub mod ItemSteps
+pub mod PartSteps
 pub mod ReportSteps
 pub mod RunMeanings
 pub mod WordRanges

@@ -14,6 +14,7 @@ use Rattle.palp_words.specs.declared.job.PolyFlags.{PolyFlags}
 use Rattle.palp_input.specs.Grammar.{Listed, TextEnd}
 use Rattle.palp_engine.specs.Entries.{Entry, TextItem, OfList, AreRangeEntries, AreEntries}
 use Rattle.weight_lists.proofs.Single.{one_list_of_entries_lem, one_cws_step_lem, one_sweep_step_lem}
+use Rattle.nef_report.proofs.SingleSteps.{one_listing_step}
 use Rattle.palp_engine.specs.Commands.{BlocksSay, printed, whole, unwanted, refused, Says, IsBuilt, AreBuilt, AreUnbuilt}
 use Rattle.palp_engine.specs.Texts.{outcome_with, HaveReport, of_entries, of_unbuilt, of_bad_words, IsFront, no_front, front_of_entries}
 use Rattle.palp_engine.specs.Laws.{OneListOfEntries, OneList, OneReport, FrontsAreFronts, EmptyFront}
@@ -38,7 +39,8 @@ says_one_piece flags item _ _ _ whole whole = refl
 pub says_one : (job : Job) → SaysOne (Says job)
 says_one (Poly flags) (TextItem item) k step other a b = says_one_piece flags item k step other a b
 says_one (Poly flags) (OfList entry) k step other a b = absurd a
-says_one (Nef words) entry k step other a b = absurd a
+says_one (Nef words) (TextItem item) k step other a b = one_listing_step words.codim item k step other a.1 b.1
+says_one (Nef words) (OfList entry) k step other a b = absurd a
 says_one (Cws words) (TextItem item) k step other a b = absurd a
 says_one (Cws words) (OfList entry) k step other a b = one_cws_step_lem words.reflexive_only entry k step other a b
 says_one (Sweep words) (TextItem item) k step other a b = absurd a

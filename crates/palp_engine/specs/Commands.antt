@@ -1,22 +1,28 @@
 -- The jobs that are built, and what they say of an item. This project's own.
-use Rattle.std.specs.Prelude.{◌≡◌, ℕ, List, Ok}
+use Rattle.std.specs.Prelude.{◌≡◌, ℕ, ◌≤◌, IsTrue, List, Ok}
 use Rattle.lattice_core.specs.declared.faults.Refusal.{Refusal}
 use Rattle.report_theory.specs.Report.{Whole, Ends, Step, Piece, Close}
 use Rattle.palp_words.specs.Words.{words_of}
 use Rattle.palp_words.specs.declared.job.Job.{Job}
 use Rattle.palp_words.specs.declared.job.Job.TheVariants.{Poly, Nef, Cws, Sweep}
 use Rattle.palp_words.specs.declared.job.PolyFlags.{PolyFlags}
+use Rattle.palp_words.specs.declared.job.NefWords.{NefWords}
 use Rattle.palp_input.specs.Grammar.{Listed}
 use Rattle.weight_lists.specs.Entries.{ListEntry}
 use Rattle.weight_lists.specs.Lists.{CwsSays}
 use Rattle.weight_lists.specs.Sweeps.{SweepSays}
+use Rattle.nef_report.specs.Partitions.{PartitionsSay}
 use Rattle.palp_engine.specs.Items.{IsItemRefused, IsPiece, IsUnwanted}
 use Rattle.palp_engine.specs.Entries.{Entry, TextItem, OfList}
 
--- the job is built: it isn't `nef`
+-- the words of `nef` that are built: the partitions are listed, into one part or more
+abbrev pub ArePartWords : NefWords → Type 0
+ArePartWords words = IsTrue words.list_only × (1 ≤ words.codim)
+
+-- the job is built: every one is but `nef` with other words
 abbrev pub IsBuilt : Job → Type 0
 IsBuilt (Poly flags) = Unit {0}
-IsBuilt (Nef words) = ⊥
+IsBuilt (Nef words) = ArePartWords words
 IsBuilt (Cws words) = Unit {0}
 IsBuilt (Sweep words) = Unit {0}
 
@@ -56,9 +62,14 @@ abbrev pub ListSays : (ListEntry → ℕ → Step Refusal → Type 0) → Entry 
 ListSays says (TextItem item) k step = ⊥
 ListSays says (OfList entry) k step = says entry k step
 
+-- What `nef` says of an entry, which is an item of a text: its nef partitions, one after another.
+abbrev pub NefSays : NefWords → Entry → ℕ → Step Refusal → Type 0
+NefSays words (TextItem item) k step = IsTrue words.list_only × PartitionsSay words.codim item k step
+NefSays words (OfList entry) k step = ⊥
+
 -- What a job says of an entry: what comes next after so many of its pieces. A job that isn't built says nothing.
 abbrev pub Says : Job → Entry → ℕ → Step Refusal → Type 0
 Says (Poly flags) entry k step = PolySays flags entry k step
-Says (Nef words) entry k step = ⊥
+Says (Nef words) entry k step = NefSays words entry k step
 Says (Cws words) entry k step = ListSays (CwsSays words.reflexive_only) entry k step
 Says (Sweep words) entry k step = ListSays SweepSays entry k step

@@ -28,6 +28,8 @@ use Rattle.palp_engine.specs.declared.outcome.Outcome.{Outcome}
 use Rattle.palp_engine.specs.declared.outcome.Outcome.TheVariants.{Done, BadWords, BadText, Refused, TextLimit, NotBuilt, ReadFault, WriteFault, NoMemory}
 use Rattle.weight_lists.specs.declared.fault.ListFault.{ListFault}
 use Rattle.weight_lists.specs.declared.fault.ListFault.TheVariants as lists
+use Rattle.nef_report.specs.declared.fault.NefFault.{NefFault}
+use Rattle.nef_report.specs.declared.fault.NefFault.TheVariants as parts
 use Rattle.palp_engine.specs.declared.session.ItemFault.{ItemFault}
 use Rattle.palp_engine.specs.declared.session.ItemFault.TheVariants as faults
 
@@ -85,6 +87,12 @@ IsWeightLine (ListedPoints lines columns entries) = ⊥
 abbrev pub IsItemStop : Fault → ItemFault → Type 0
 IsItemStop (stops.Refused cause) fault = fault ≡ faults.Refused cause
 IsItemStop stops.NoMemory fault = fault ≡ faults.NoMemory
+
+-- a fault of the list of an item's nef partitions, as the fault of its report
+abbrev pub IsListStop : NefFault → ItemFault → Type 0
+IsListStop (parts.Refused cause) fault = fault ≡ faults.Refused cause
+IsListStop parts.Write fault = fault ≡ faults.Write
+IsListStop parts.NoMemory fault = fault ≡ faults.NoMemory
 
 -- the outcome where the reader gives no item and no end
 abbrev pub outcome_unread : NextFault → Outcome

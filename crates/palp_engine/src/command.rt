@@ -19,13 +19,13 @@ use palp_words::{Job, read_words};
 use std::alloc::Global;
 use weight_lists::{list_systems, sum_up};
 
-/// Whether the job is built: every one but `nef` is.
+/// Whether the job is built: every one is but `nef` with words that aren't built.
 fn is_built(job: &Job) -> bool
     ensures { IsTrue result ↔ IsBuilt job.now }
 {
     match job {
         Job::Poly(_) => true,
-        Job::Nef(_) => false,
+        Job::Nef(words) => words.list_only && words.codim >= 1,
         Job::Cws(_) => true,
         Job::Sweep(_) => true,
     }

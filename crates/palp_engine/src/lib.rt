@@ -12,6 +12,7 @@ mod faces;
 mod laws;
 mod lists;
 mod outcome;
+mod parts;
 mod pieces;
 mod polytopes;
 mod session;

@@ -9,6 +9,7 @@ ghost use Rattle.palp_engine.specs.Entries.{item_entry};
 ghost use Rattle.palp_engine.specs.Sessions.{EntryMeans};
 
 use crate::faces::Faces;
+use crate::parts::report_parts;
 use crate::pieces::write_piece;
 use lattice_core::{Fault, NoMemory, Refusal};
 use palp_input::Item;
@@ -67,23 +68,36 @@ impl Session {
     }
 }
 
-/// The letters of a job that is built and reads a text.
-fn letters_of(job: &Job) -> PolyFlags
-    requires built { IsBuilt job.now }
-    requires reads { ReadsText job.now }
-    ensures { job.now ≡ Job.Poly result }
+/// Gives the piece of an item that `poly` says with these letters, or none where it has none.
+fn report_blocks<O: Sink>(
+    session: &mut Session,
+    flags: &PolyFlags,
+    item: &Item,
+    out: &mut O,
+) -> Result<(), ItemFault>
+    requires { IsItem (listed item.now) }
+    ensures { EntryMeans result (Job.Poly flags.now) (item_entry item.now) (O.state out.old) (O.state out.new) }
 {
-    match job {
-        Job::Poly(flags) => *flags,
-        Job::Nef(_) => unreachable!(),
-        Job::Cws(_) => unreachable!(),
-        Job::Sweep(_) => unreachable!(),
+    let wanted = write_piece(
+        session.alloc,
+        &mut session.page,
+        &mut session.faces,
+        flags,
+        item,
+    )?;
+    if !wanted {
+        return Ok(());
+    }
+    match out.give(session.page.bytes()) {
+        Gave::All => Ok(()),
+        Gave::Failed => Err(ItemFault::Write),
     }
 }
 
-/// Gives the pieces of one item to `out`, one after another, as the job says them. The job is `poly`; it says of an item one piece, the blocks
-/// that the letters ask (`run` tells them), or none where only reflexive polytopes are to be printed and its polytope isn't one. The item is one of a
-/// text. After every answer the session serves a next item.
+/// Gives the pieces of one item to `out`, one after another, as the job says them. The job is one that is built. `poly` says of an item one piece,
+/// the blocks that the letters ask (`run` tells them), or none where only reflexive polytopes are to be printed and its polytope isn't one. `nef`
+/// says one line of a polytope that isn't reflexive, and of another one its first line, each nef partition, and how many there are. The item is one
+/// of a text. After every answer the session serves a next item.
 ///
 /// `Ok` comes only where the item isn't refused, and appends all its pieces. `Refused` comes only with the item's first refusal, behind the
 /// pieces before it, of which `poly` has none. `Write` comes only where the count of faults of `out` rose in this call, and `NoMemory` where
@@ -100,19 +114,10 @@ pub fn report_item<O: Sink>(
     requires item { IsItem (listed item.now) }
     ensures { EntryMeans result job.now (item_entry item.now) (O.state out.old) (O.state out.new) }
 {
-    let flags = letters_of(job);
-    let wanted = write_piece(
-        session.alloc,
-        &mut session.page,
-        &mut session.faces,
-        &flags,
-        item,
-    )?;
-    if !wanted {
-        return Ok(());
-    }
-    match out.give(session.page.bytes()) {
-        Gave::All => Ok(()),
-        Gave::Failed => Err(ItemFault::Write),
+    match job {
+        Job::Poly(flags) => report_blocks(session, flags, item, out),
+        Job::Nef(words) => report_parts(session.alloc, &mut session.page, words, item, out),
+        Job::Cws(_) => unreachable!(),
+        Job::Sweep(_) => unreachable!(),
     }
 }
