@@ -32,7 +32,7 @@ use Rattle.batyrev.specs.declared.line.HodgeLine.TheVariants as lines
 use Rattle.palp_print.specs.Lists.{body_line}
 use Rattle.palp_print.specs.Blocks.{ArePaired, columns, pairing, incidence}
 use Rattle.palp_print.specs.declared.titles.Title.TheVariants.{Vertices, Points}
-use Rattle.palp_engine.specs.Shown.{ask_dual, Shown, Alone, Paired, shown_polytope, IsShown, HasNumbers, AskNumbers, AskFaces}
+use Rattle.palp_engine.specs.Shown.{ask_dual, only_reflexive, Shown, Alone, Paired, shown_polytope, IsShown, HasNumbers, AskNumbers, AskFaces}
 use Rattle.palp_engine.specs.Items.{HasPolytope, IsItemRefused, IsPiece, IsUnwanted, no_asked_dual, many_faces, have_ones, item_echo, facet_block}
 use Rattle.palp_engine.specs.Items.{asked, blocks}
 use Rattle.palp_engine.specs.Laws.{OnesTellReflexive}
@@ -282,23 +282,23 @@ module _ (flags : PolyFlags) (item : Listed) (points : List (List ℤ)) (kept : 
         neither true b e on = e
         neither false b e on = absurd (search rules)
 
-    wanted_by : (r || not flags.reflexive_only) ≡ true → IsTrue flags.reflexive_only → IsReflexivePolytope p
-    wanted_by e only = tested (ones ∙ but r flags.reflexive_only e only)
+    wanted_by : (r || not (only_reflexive flags)) ≡ true → IsTrue (only_reflexive flags) → IsReflexivePolytope p
+    wanted_by e only = tested (ones ∙ but r (only_reflexive flags) e only)
       where
         but : (a b : Bool) → (a || not b) ≡ true → IsTrue b → a ≡ true
         but true b e on = refl
         but false true e on = absurd (cc)
         but false false e on = absurd (search rules)
 
-    other_by : (r || not flags.reflexive_only) ≡ false → IsReflexivePolytope p → ⊥
-    other_by e = tested_not (ones ∙ but r flags.reflexive_only e)
+    other_by : (r || not (only_reflexive flags)) ≡ false → IsReflexivePolytope p → ⊥
+    other_by e = tested_not (ones ∙ but r (only_reflexive flags) e)
       where
         but : (a b : Bool) → (a || not b) ≡ false → a ≡ false
         but true b e = absurd (cc)
         but false b e = refl
 
-    only_by : (r || not flags.reflexive_only) ≡ false → IsTrue flags.reflexive_only
-    only_by e = but r flags.reflexive_only e
+    only_by : (r || not (only_reflexive flags)) ≡ false → IsTrue (only_reflexive flags)
+    only_by e = but r (only_reflexive flags) e
       where
         but : (a b : Bool) → (a || not b) ≡ false → IsTrue b
         but true b e = absurd (cc)
@@ -332,7 +332,7 @@ module _ (flags : PolyFlags) (item : Listed) (points : List (List ℤ)) (kept : 
           (λ on. k.lattice_is (listed_for_points flags.points (ask_dual flags) on)))
           k.vertices_are k.facets_are (sym (asked_nothing flags.dual_points))
 
-      pub alone_piece : (IsTrue flags.reflexive_only → IsReflexivePolytope p) → IsPiece flags item page
+      pub alone_piece : (IsTrue (only_reflexive flags) → IsReflexivePolytope p) → IsPiece flags item page
       alone_piece wanted = record {
         polytope = p;
         shown = Alone p;
@@ -345,7 +345,7 @@ module _ (flags : PolyFlags) (item : Listed) (points : List (List ℤ)) (kept : 
         written = own_text;
       }
 
-      pub alone_unwanted : IsTrue flags.reflexive_only → (IsReflexivePolytope p → ⊥) → IsUnwanted flags item
+      pub alone_unwanted : IsTrue (only_reflexive flags) → (IsReflexivePolytope p → ⊥) → IsUnwanted flags item
       alone_unwanted only other = record {
         polytope = p;
         shown = Alone p;
@@ -400,7 +400,7 @@ module _ (flags : PolyFlags) (item : Listed) (points : List (List ℤ)) (kept : 
   -- the answer, where the polytope was printed alone
   pub answered : (r : Bool) (fs : List Affine) (told : r ≡ have_ones fs) (same : fs ≡ kept.facets.items) → (ask_dual flags && r) ≡ false
       → (before page : List ℕ) → before ≡ [] → IsAloneWritten flags item kept before page → (wanted : Bool)
-      → wanted ≡ (r || not flags.reflexive_only) → IsWritten flags item page wanted
+      → wanted ≡ (r || not (only_reflexive flags)) → IsWritten flags item page wanted
   answered r fs told same e before page empty w true t = alone_piece (none_by r fs told same e) page
       (subst (λ (b : List ℕ). IsAloneWritten flags item kept b page) empty w) (wanted_by r fs told same (sym t))
   answered r fs told same e before page empty w false t = alone_unwanted (none_by r fs told same e) page

@@ -21,7 +21,7 @@ use Rattle.palp_print.specs.Lists.{echo, body_line, pair_line}
 use Rattle.palp_print.specs.Blocks.{columns, dual_rows, equations, pairing, incidence}
 use Rattle.palp_print.specs.declared.titles.Title.TheVariants.{Vertices, Points, DualPoints}
 use Rattle.palp_engine.specs.Reports.{IsRefused}
-use Rattle.palp_engine.specs.Shown.{ask_dual, Shown, Alone, Paired, shown_polytope, IsShown, AskFaces, AreNumbersOf}
+use Rattle.palp_engine.specs.Shown.{ask_dual, only_reflexive, Shown, Alone, Paired, shown_polytope, IsShown, AskFaces, AreNumbersOf}
 
 -- why an item with points is refused
 pub record IsHullRefusal (item : Listed) (cause : Refusal) : Type 0 where
@@ -113,7 +113,7 @@ pub record IsPiece (flags : PolyFlags) (item : Listed) (piece : List ℕ) : Type
   pub polytope : PolytopeState
   pub shown : Shown
   pub accepted : IsAccepted flags item polytope shown
-  pub is_wanted : IsTrue flags.reflexive_only → IsReflexivePolytope polytope
+  pub is_wanted : IsTrue (only_reflexive flags) → IsReflexivePolytope polytope
   pub numbers : HodgeLine
   pub are_numbers : AreNumbersOf flags shown numbers
   pub counts : List ℕ
@@ -121,10 +121,10 @@ pub record IsPiece (flags : PolyFlags) (item : Listed) (piece : List ℕ) : Type
       → AreFaceCounts (on_facets (shown_polytope shown)) (dimension_of (shown_polytope shown).vertices) counts
   pub written : piece ≡ blocks flags item shown numbers counts
 
--- the item isn't refused, and it has no piece: only reflexive polytopes are to be printed, and its isn't
+-- the item isn't refused, and it has no piece, as nothing is printed of it: only of reflexive polytopes anything is, and its isn't one
 pub record IsUnwanted (flags : PolyFlags) (item : Listed) : Type 0 where
   pub polytope : PolytopeState
   pub shown : Shown
   pub accepted : IsAccepted flags item polytope shown
-  pub reflexive_only : IsTrue flags.reflexive_only
+  pub reflexive_only : IsTrue (only_reflexive flags)
   pub other : IsReflexivePolytope polytope → ⊥

@@ -12,6 +12,14 @@ use Rattle.batyrev.specs.declared.line.HodgeLine.{HodgeLine}
 abbrev pub ask_dual : PolyFlags → Bool
 ask_dual flags = not flags.plain && (flags.general || (flags.dual_points || flags.dual_input))
 
+-- they ask for a block that every polytope has
+abbrev pub ask_own_block : PolyFlags → Bool
+ask_own_block flags = flags.general || (flags.points || (flags.vertices || (flags.equations || (flags.matrix || flags.incidence))))
+
+-- only of reflexive polytopes anything is printed: the letter for that is on, or no block is asked but that of the dual's points
+abbrev pub only_reflexive : PolyFlags → Bool
+only_reflexive flags = flags.reflexive_only || not (ask_own_block flags)
+
 -- a polytope alone, or a reflexive polytope with its dual
 pub data Shown : Type 0 where
   Alone : PolytopeState → Shown

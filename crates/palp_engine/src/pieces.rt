@@ -10,7 +10,7 @@ ghost use Rattle.palp_input.specs.Grammar.{listed};
 ghost use Rattle.palp_input.specs.Items.{IsItem};
 ghost use Rattle.dual_pair.specs.Polytopes.{IsPolytope as IsDualPolytope};
 ghost use Rattle.dual_pair.specs.Pairs.{IsReflexivePolytope, HasNoDual};
-ghost use Rattle.palp_engine.specs.Shown.{ask_dual, AskNumbers};
+ghost use Rattle.palp_engine.specs.Shown.{ask_dual, ask_own_block, only_reflexive, AskNumbers};
 ghost use Rattle.palp_engine.specs.Items.{IsItemRefused};
 ghost use Rattle.palp_engine.specs.RunSteps.{IsWeightLine, ArePrinted};
 ghost use Rattle.palp_engine.specs.FaceSteps.{CanHaveFaces, IsFaceStop};
@@ -67,11 +67,27 @@ fn shows_pair(flags: &PolyFlags, reflexive: bool) -> bool
     asks_dual(flags) && reflexive
 }
 
+/// Whether a block is asked that every polytope has.
+fn asks_own_block(flags: &PolyFlags) -> bool
+    ensures { result ≡ ask_own_block flags.now }
+{
+    flags.general
+        || (flags.points
+            || (flags.vertices || (flags.equations || (flags.matrix || flags.incidence))))
+}
+
+/// Whether only of reflexive polytopes anything is printed.
+fn prints_only_reflexive(flags: &PolyFlags) -> bool
+    ensures { result ≡ only_reflexive flags.now }
+{
+    flags.reflexive_only || !asks_own_block(flags)
+}
+
 /// Whether there is a piece.
 fn is_wanted(flags: &PolyFlags, reflexive: bool) -> bool
-    ensures { result ≡ (reflexive || not flags.now.reflexive_only) }
+    ensures { result ≡ (reflexive || not (only_reflexive flags.now)) }
 {
-    reflexive || !flags.reflexive_only
+    reflexive || !prints_only_reflexive(flags)
 }
 
 /// Whether Batyrev's numbers of a pair of this dimension are printed.
