@@ -19,7 +19,7 @@ use palp_words::{Job, read_words};
 use std::alloc::Global;
 use weight_lists::{list_systems, sum_up};
 
-/// Whether the job is built: every one is but `nef` with words that aren't built.
+/// Whether the job is built: every one is but `nef` without `p`.
 fn is_built(job: &Job) -> bool
     ensures { IsTrue result ↔ IsBuilt job.now }
 {
@@ -142,16 +142,18 @@ fn answer<S: Source, O: Sink>(alloc: Global, words: &[String], src: &mut S, out:
 /// `M:points vertices F:facets`. `p` are the lattice points, `v` the vertices, `e` the facets, `m` the pairing of facets and vertices, `d` the
 /// points of the dual of a reflexive polytope, `i` the numbers of faces and which vertices lie on which facets, and `a` all of these but `i`. With
 /// `D` the dual of a reflexive polytope takes its place in all of this, and with `r` nothing is printed of a polytope that isn't reflexive.
-/// `Done` comes where the whole report was given. `Refused` tells the first item that exceeds a limit (docs/limits.md) or is flat, `BadText` the first fault of the
-/// text, and `TextLimit` a text of more than 67,108,864 bytes; the items before are reported.
+/// `nef` with `p` reads the items, too, and gives of each one the line of its numbers, and of a reflexive polytope each of its nef partitions
+/// (alg-geom/9509009), as it is found, and the line that tells how many there are. `Done` comes where the whole report was given. `Refused` tells
+/// the first item that exceeds a limit (docs/limits.md) or is flat, `BadText` the first fault of the text, and `TextLimit` a text of more than
+/// 67,108,864 bytes; the items before are reported.
 ///
 /// `cws` and `sweep` read nothing, and leave the source as it was. They go through the interior-point weight systems of a range
 /// (math/0204356), by degree and then by weights. `cws` gives a line for each of them, and with `-r` for each whose polytope is reflexive, and then
 /// the line of their number; `sweep` gives one line: how many there are, how many have a reflexive polytope, and the sums of the numbers of lattice
-/// points of all polytopes and of the duals of the reflexive ones. With `-r` and in `sweep` a system is refused as its weight line is, and its
-/// number is its place in the list of all systems of the range.
+/// points of all polytopes and of the duals of the reflexive ones. With `-r` and in `sweep` a system is refused by the first limit that it
+/// exceeds of those that stand for them, and its number is its place in the list of all systems of the range.
 ///
-/// `nef` is `NotBuilt`, and words that give no job are `BadWords`; nothing is read then. `ReadFault` and `WriteFault` come only where the count of
+/// `nef` without `p` is `NotBuilt`, and words that give no job are `BadWords`; nothing is read then. `ReadFault` and `WriteFault` come only where the count of
 /// faults of the source, or of `out`, rose in this call; `NoMemory` may come at any step of a job. At most 67,108,865 bytes are taken. Where the
 /// report is empty nothing is given to `out`. For each outcome but `Done` the outcome's note line is given to `notes`, or a front of it where the count
 /// of faults of `notes` rose, which changes nothing else.

@@ -9,7 +9,7 @@ use palp_words::WordFault;
 /// How a run ended.
 #[derive(Debug, Drop)]
 pub enum Outcome {
-    /// The whole report was given, and the source was read to its end.
+    /// The whole report was given, and where the job reads a text the source was read to its end.
     Done,
     /// A word of the command line is wrong.
     BadWords(WordFault),

@@ -26,6 +26,17 @@ fn systems_are_listed_in_order(rt: HostRuntime) -> Result<(), Fail> {
             "3 1 1 1\n4 1 1 2\n6 1 2 3\n#ref:3\n",
         ),
         asked(&["cws", "-w1", "1", "2", "-r"], NO_ITEM, "2 1 1\n#ref:1\n"),
+        asked(
+            &["cws", "-w5", "6", "7"],
+            NO_ITEM,
+            "6 1 1 1 1 1 1\n7 1 1 1 1 1 2\n#ip:2\n",
+        ),
+        asked(
+            &["cws", "-r", "-w5", "6", "7"],
+            NO_ITEM,
+            "6 1 1 1 1 1 1\n#ref:1\n",
+        ),
+        asked(&["cws", "-w2", "7", "1000"], NO_ITEM, "#ip:0\n"),
     ];
     assert!(rt; are_answered(&rt, &cases)?);
     Ok(())
@@ -48,6 +59,11 @@ fn systems_are_summed_up(rt: HostRuntime) -> Result<(), Fail> {
             &["sweep", "2", "7", "9"],
             NO_ITEM,
             "systems:0 reflexive:0 M:0 N:0\n",
+        ),
+        asked(
+            &["sweep", "3", "4", "66"],
+            NO_ITEM,
+            "systems:95 reflexive:95 M:1680 N:1938\n",
         ),
     ];
     assert!(rt; are_answered(&rt, &cases)?);

@@ -48,6 +48,19 @@ P:19 V:0 1 1 0 0 1\nP:20 V:0 1 1 0 1 1\nP:21 V:0 1 1 1 0 0\nP:22 V:0 1 1 1 0 1\n
             QUARTIC,
             "4 1 1 1 1 M:35 4 N:5 4 codim=1\nP:1 V:0 0 0 0\n#nef:1\n",
         ),
+        asked(
+            &["nef", "-p"],
+            "6 1 1 1 1 1 1\n",
+            "6 1 1 1 1 1 1 M:462 6 N:7 6 codim=2\n\
+P:1 V:0 0 0 0 0 1\nP:2 V:0 0 0 0 1 0\nP:3 V:0 0 0 0 1 1\nP:4 V:0 0 0 1 0 0\nP:5 V:0 0 0 1 0 1\n\
+P:6 V:0 0 0 1 1 0\nP:7 V:0 0 0 1 1 1\nP:8 V:0 0 1 0 0 0\nP:9 V:0 0 1 0 0 1\nP:10 V:0 0 1 0 1 0\n\
+P:11 V:0 0 1 0 1 1\nP:12 V:0 0 1 1 0 0\nP:13 V:0 0 1 1 0 1\nP:14 V:0 0 1 1 1 0\nP:15 V:0 0 1 1 1 1\n\
+P:16 V:0 1 0 0 0 0\nP:17 V:0 1 0 0 0 1\nP:18 V:0 1 0 0 1 0\nP:19 V:0 1 0 0 1 1\nP:20 V:0 1 0 1 0 0\n\
+P:21 V:0 1 0 1 0 1\nP:22 V:0 1 0 1 1 0\nP:23 V:0 1 0 1 1 1\nP:24 V:0 1 1 0 0 0\nP:25 V:0 1 1 0 0 1\n\
+P:26 V:0 1 1 0 1 0\nP:27 V:0 1 1 0 1 1\nP:28 V:0 1 1 1 0 0\nP:29 V:0 1 1 1 0 1\nP:30 V:0 1 1 1 1 0\n\
+P:31 V:0 1 1 1 1 1\n\
+#nef:31\n",
+        ),
     ];
     assert!(rt; are_answered(&rt, &cases)?);
     Ok(())
@@ -73,6 +86,11 @@ fn polytopes_without_partitions_are_told(rt: HostRuntime) -> Result<(), Fail> {
 fn too_many_parts_are_refused(rt: HostRuntime) -> Result<(), Fail> {
     let cases = [
         refused(&["nef", "-p"], HEXAGON, "palp: item 1: limit Codim: 2\n"),
+        refused(
+            &["nef", "-p"],
+            "7 1 1 1 1 1 1 1\n",
+            "palp: item 1: limit Rank: 8\n",
+        ),
         refused(
             &["nef", "-c3", "-p"],
             SIMPLEX,
