@@ -4,3 +4,7 @@ mod Signs
 mod RangeSums
 mod MadeStars
 mod Ranges
+mod FaceTerms
+mod KeptRows
+mod FaceSums
+mod ConeRows

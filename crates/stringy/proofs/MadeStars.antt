@@ -31,6 +31,10 @@ star_value rank n row taken cleared e r long h c k = by (large_or_not k (max ran
         (h k (omega arith) ∙ sym (alternating_is_differences rank (entry row) k))
     by (inr l) = first ∙ cut (max rank 1) k (entry taken k) l ∙ sym (cut (max rank 1) k (alternating rank (entry row) k) l)
 
+-- no coefficients from the rank on
+pub star_zero : (rank : ℕ) (l : Series) (k : ℕ) → max rank 1 ≤ k → h_star rank l k ≡ pos 0
+star_zero rank l k h = cut (max rank 1) k (alternating rank l k) h
+
 -- the same of numbers that begin alike
 pub star_same : (rank : ℕ) (l m : Series) → rank ≤ 8 → ((s : ℕ) → s < max rank 1 → l s ≡ m s) → (k : ℕ) → h_star rank l k ≡ h_star rank m k
 star_same rank l m r h k = by (large_or_not k (max rank 1))

@@ -1,22 +1,13 @@
 -- Lists of values along a range, with one more.
-use Rattle.std.proofs.Common.{◌≡◌, ℕ, zero, suc, ◌+◌, ◌==◌, true, false, ◌⊎◌, inl, inr, List, [], ◌∷◌, ◌++◌, map, flat_map, ℤ, sym, ap, ◌∙◌, arith}
+use Rattle.std.proofs.Common.{◌≡◌, ℕ, suc, ◌+◌, ◌==◌, true, false, ◌⊎◌, inl, inr, List, [], ◌∷◌, ◌++◌, map, flat_map, ℤ, sym, ap, ◌∙◌, arith}
 use Rattle.std.proofs.lemmas.List.{map-append, append_assoc, append-nil}
 use Rattle.std.proofs.lemmas.Bool.{cases_Bool, eqb-true}
 use Rattle.std.proofs.lemmas.Grind.{flat_map-append}
 use Rattle.std.specs.List.{range_with_len}
-
-range_last : (a n : ℕ) → range_with_len a (suc n) ≡ range_with_len a n ++ (a + n) ∷ []
-range_last a zero = ap (λ (b : ℕ). b ∷ []) (same a)
-  where
-    same : (a : ℕ) → a ≡ a + 0
-    same a = omega arith
-range_last a (suc n) = ap (λ (xs : List ℕ). a ∷ xs) (range_last (a + 1) n ∙ ap (λ (b : ℕ). range_with_len (a + 1) n ++ b ∷ []) (moved a n))
-  where
-    moved : (a n : ℕ) → a + 1 + n ≡ a + suc n
-    moved a n = omega arith
+use Rattle.poset_g.proofs.Ranges.{range_more}
 
 one_more : (a n : ℕ) → range_with_len a (n + 1) ≡ range_with_len a n ++ (a + n) ∷ []
-one_more a n = ap (range_with_len a) (plus n) ∙ range_last a n
+one_more a n = ap (range_with_len a) (plus n) ∙ range_more a n
   where
     plus : (n : ℕ) → n + 1 ≡ suc n
     plus n = omega arith

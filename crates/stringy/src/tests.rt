@@ -1,4 +1,6 @@
 //! Tests.
+mod triangle;
+
 use crate::{EPoly, h_star_of};
 use small_poly::Poly2;
 use std::rt::HostRuntime;
