@@ -1,6 +1,6 @@
 //! Reflexive polytopes with their duals, and Batyrev's numbers.
 
-use crate::runs::{Case, TRIANGLE, are_answered, asked};
+use crate::runs::{Case, TRIANGLE, are_answered, asked, failing_give, is_answered};
 use std::test::Fail;
 
 const HEXAGONS: &str = "2 6\n1 1 0 -1 -1 0\n0 1 1 0 -1 -1\n6 2\n1 0\n1 1\n0 1\n-1 0\n-1 -1\n0 -1\n";
@@ -182,5 +182,75 @@ fn large_duals_are_refused_where_they_are_asked(rt: HostRuntime) -> Result<(), F
         ),
     ];
     assert!(rt; are_answered(&rt, &cases)?);
+    Ok(())
+}
+
+#[test]
+fn numbers_exchange_with_the_sides(rt: HostRuntime) -> Result<(), Fail> {
+    let surfaces = "12 2 3 3 4\n";
+    let fourfolds = "12 1 1 1 3 3 3\n";
+    let cases = [
+        general(surfaces, "12 2 3 3 4 M:15 4 N:9 4 Pic:12 Cor:8\n"),
+        asked(
+            &["poly", "-D"],
+            surfaces,
+            "12 2 3 3 4 M:9 4 N:15 4 Pic:16 Cor:8\n",
+        ),
+        general(fourfolds, "12 1 1 1 3 3 3 M:539 6 N:8 6 H:2,3,491 [2988]\n"),
+        asked(
+            &["poly", "-D"],
+            fourfolds,
+            "12 1 1 1 3 3 3 M:8 6 N:539 6 H:491,3,2 [2988]\n",
+        ),
+    ];
+    assert!(rt; are_answered(&rt, &cases)?);
+    Ok(())
+}
+
+#[test]
+fn texts_end_as_without_duals(rt: HostRuntime) -> Result<(), Fail> {
+    let cases = [
+        general("", ""),
+        general(" \n\n", ""),
+        general("1 2\n-8192 8191\n", "M:16384 2 F:2\n"),
+        refused(
+            &["poly"],
+            "1 2\n-8192 8192\n",
+            "palp: item 1: limit Points: 16385\n",
+        ),
+        Case {
+            note: "palp: line 2 column 1: MatrixShort\n",
+            status: 3,
+            ..general("3 1 1 1\n2 3\n0 1 0\n", "3 1 1 1 M:10 3 N:4 3\n")
+        },
+        Case {
+            note: "palp: line 1 column 13: Quotient\n",
+            status: 3,
+            ..general("5 1 1 1 1 1 /Z5: 0 1 2 3 4\n", "")
+        },
+    ];
+    assert!(rt; are_answered(&rt, &cases)?);
+    Ok(())
+}
+
+#[test]
+fn nothing_is_given_where_nothing_is_printed(rt: HostRuntime) -> Result<(), Fail> {
+    let cases = [
+        asked(&["poly", "-d"], TRIANGLE, ""),
+        asked(&["poly", "-dD"], TRIANGLE, ""),
+        asked(&["poly", "-r"], TRIANGLE, ""),
+    ];
+    for case in &cases {
+        assert!(rt; is_answered(&rt, case, 4096, failing_give(1))?);
+    }
+    let fault = Case {
+        note: "palp: write fault\n",
+        status: 7,
+        ..general(
+            "5 1 1 1 1 1\n3 2\n-1 -1\n3 -1\n-1 2\n",
+            "5 1 1 1 1 1 M:126 5 N:6 5 H:1,101 [-200]\n",
+        )
+    };
+    assert!(rt; is_answered(&rt, &fault, 4096, failing_give(2))?);
     Ok(())
 }
