@@ -58,8 +58,8 @@ PieceOrNone = (flags : PolyFlags) (item : Listed) (piece : List ℕ) → IsPiece
 abbrev pub NoneOrRefusal : Type 0
 NoneOrRefusal = (flags : PolyFlags) (item : Listed) (cause : Refusal) → IsUnwanted flags item → IsItemRefused flags item cause → ⊥
 
--- The way back: of a reflexive polytope the letters print what the same letters with `D` print of its dual, so an item whose points are those of
--- the dual's block has the piece of the first item, but for the numbers of a weight line.
+-- The way back: of a reflexive polytope the letters print what the same letters with `D` print of its dual. So two items that have the sides of a
+-- pair for their polytopes, and the same numbers in front of their lines, have one piece, where each has any.
 abbrev pub with_dual : PolyFlags → PolyFlags
 with_dual flags = record {
   general = flags.general;

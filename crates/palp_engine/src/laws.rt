@@ -1,6 +1,8 @@
-//! What a text says is said once.
+//! What a text says is said once; and what reflexive polytopes print, and their duals.
 
-ghost use Rattle.palp_engine.specs.Laws.{OnePolytope, OneRefusal, PolytopeOrRefusal, OnePiece, OneItemRefusal, PieceOrRefusal, PieceOrNone, NoneOrRefusal, OneListOfEntries, OneList, OneReport, FrontsAreFronts, EmptyFront, OneEndedReport, EndedReportsAreFronts, OnesTellReflexive, WayBack};
+ghost use Rattle.palp_engine.specs.Laws.{OnePolytope, OneRefusal, PolytopeOrRefusal, OnePiece, OneItemRefusal, PieceOrRefusal, PieceOrNone, NoneOrRefusal};
+ghost use Rattle.palp_engine.specs.Laws.{OneListOfEntries, OneList, OneReport, FrontsAreFronts, EmptyFront, OneEndedReport, EndedReportsAreFronts};
+ghost use Rattle.palp_engine.specs.Laws.{OnesTellReflexive, WayBack};
 
 /// A law, and no work: points have at most one list of lattice points, vertices and facets and, if there is a point, at most one refusal, and
 /// not both; so letters ask for at most one piece of an item, or for none, and it has at most one refusal, and no two of these. A job
@@ -26,8 +28,9 @@ pub fn answers_are_single()
     ensures ended_front { EndedReportsAreFronts }
 {}
 
-/// A law, and no work: the printed dual can be fed back. Of a reflexive item, the letters print what the same letters with `D` print of an item whose
-/// points have the dual for their polytope, as those of the block of facets have; but for the numbers of a weight line.
+/// A law, and no work: the dual leads back. Where two items have the two sides of a pair for their polytopes, and the same numbers in front of
+/// their lines, as two matrices have, and each has a piece, the letters print of the first one what the same letters with `D` print of the other.
+/// It says nothing of how a printed block is read.
 pub fn dual_leads_back()
     ensures { WayBack }
 {}
