@@ -1,33 +1,16 @@
 -- Counts of the first sets.
 use Rattle.std.specs.Prelude.{slice_set}
-use Rattle.std.proofs.Common.{◌≡◌, ◌≢◌, ◌⊎◌, inl, inr, ℕ, suc, ◌+◌, ◌*◌, ◌<◌, ◌≤◌, List, length, get_or, refl, sym, ◌∙◌, subst, arith}
+use Rattle.std.proofs.Common.{◌≡◌, ◌≢◌, ◌⊎◌, inl, inr, ℕ, suc, ◌+◌, ◌*◌, ◌<◌, ◌≤◌, List, length, get_or, sym, ◌∙◌, subst, arith}
 use Rattle.std.proofs.lemmas.Bool.{cases_eq, cases_lt}
 use Rattle.std.proofs.lemmas.List.{get_or-set_same, get_or-set_other}
 use Rattle.bit_pool.specs.Bits.{IsSubset}
-use Rattle.base_counts.specs.Counting.{set_at, count_at, IsAddedAt}
+use Rattle.base_counts.specs.Counting.{set_at, count_at, IsCounted}
 
 -- so for the first i sets, and the others are as before
 pub record IsAddedTo (rows : List (List ℕ)) (tight : List ℕ) (degree i : ℕ) (old new : List ℕ) : Type 0 where
-  pub counted : (k : ℕ) → k < i → IsSubset (set_at rows k) tight → count_at new k degree ≡ suc (count_at old k degree)
-  pub passed : (k : ℕ) → k < i → (IsSubset (set_at rows k) tight → ⊥) → count_at new k degree ≡ count_at old k degree
+  pub counted : (k : ℕ) → k < i → IsCounted (set_at rows k) tight (count_at old k degree) (count_at new k degree)
   pub others : (k l : ℕ) → l < 7 → l ≢ degree → count_at new k l ≡ count_at old k l
   pub behind : (k : ℕ) → i ≤ k → count_at new k degree ≡ count_at old k degree
-
-pub added_none : (rows : List (List ℕ)) (tight : List ℕ) (degree : ℕ) (old : List ℕ) → IsAddedTo rows tight degree 0 old old
-added_none rows tight degree old = record {
-  counted = λ k l s. absurd (omega arith);
-  passed = λ k l s. absurd (omega arith);
-  others = λ k l h d. refl;
-  behind = λ k h. refl;
-}
-
-pub added_all : (rows : List (List ℕ)) (tight : List ℕ) (degree i : ℕ) (old new : List ℕ) → i ≡ length rows → IsAddedTo rows tight degree i old new
-    → IsAddedAt rows tight degree old new
-added_all rows tight degree i old new e a = record {
-  counted = λ k l s. a.counted k (omega (arith, e, l)) s;
-  passed = λ k l s. a.passed k (omega (arith, e, l)) s;
-  others = λ k l h m d. a.others k l m d;
-}
 
 below : (k i : ℕ) → k < i + 1 → (k ≡ i → ⊥) → k < i
 below k i l d = by (cases_eq k i) (cases_lt k i)
@@ -40,21 +23,14 @@ below k i l d = by (cases_eq k i) (cases_lt k i)
 module _ (rows : List (List ℕ)) (tight : List ℕ) (degree i : ℕ) (old new : List ℕ) (a : IsAddedTo rows tight degree i old new) where
   -- the next set isn't within the words
   pub pass_one : (IsSubset (set_at rows i) tight → ⊥) → IsAddedTo rows tight degree (i + 1) old new
-  pass_one none = record { counted = counted; passed = passed; others = a.others; behind = λ k h. a.behind k (omega (arith, h)) }
+  pass_one none = record { counted = counted; others = a.others; behind = λ k h. a.behind k (omega (arith, h)) }
     where
-      counted : (k : ℕ) → k < i + 1 → IsSubset (set_at rows k) tight → count_at new k degree ≡ suc (count_at old k degree)
-      counted k l s = by (cases_eq k i)
+      counted : (k : ℕ) → k < i + 1 → IsCounted (set_at rows k) tight (count_at old k degree) (count_at new k degree)
+      counted k l = by (cases_eq k i)
         where
-          by : (k ≡ i) ⊎ (k ≡ i → ⊥) → count_at new k degree ≡ suc (count_at old k degree)
-          by (inl e) = absurd (none (subst (λ (j : ℕ). IsSubset (set_at rows j) tight) e s))
-          by (inr d) = a.counted k (below k i l d) s
-
-      passed : (k : ℕ) → k < i + 1 → (IsSubset (set_at rows k) tight → ⊥) → count_at new k degree ≡ count_at old k degree
-      passed k l s = by (cases_eq k i)
-        where
-          by : (k ≡ i) ⊎ (k ≡ i → ⊥) → count_at new k degree ≡ count_at old k degree
-          by (inl e) = a.behind k (omega (arith, e))
-          by (inr d) = a.passed k (below k i l d) s
+          by : (k ≡ i) ⊎ (k ≡ i → ⊥) → IsCounted (set_at rows k) tight (count_at old k degree) (count_at new k degree)
+          by (inl e) = inr ((λ s. none (subst (λ (j : ℕ). IsSubset (set_at rows j) tight) e s)), a.behind k (omega (arith, e)))
+          by (inr d) = a.counted k (below k i l d)
 
   -- it is
   module _ (within : i * 7 + degree < length new) (small : degree < 7) (s : IsSubset (set_at rows i) tight) where
@@ -72,21 +48,17 @@ module _ (rows : List (List ℕ)) (tight : List ℕ) (degree i : ℕ) (old new :
     pub count_one : IsAddedTo rows tight degree (i + 1) old next
     count_one = record {
       counted = counted;
-      passed = passed;
       others = λ k l m d. other k l m (λ p. d p.1) ∙ a.others k l m d;
       behind = λ k h. other k degree small (λ p. let e = p.0 in omega (arith, e, h)) ∙ a.behind k (omega (arith, h));
     }
       where
-        counted : (k : ℕ) → k < i + 1 → IsSubset (set_at rows k) tight → count_at next k degree ≡ suc (count_at old k degree)
-        counted k l t = by (cases_eq k i)
+        counted : (k : ℕ) → k < i + 1 → IsCounted (set_at rows k) tight (count_at old k degree) (count_at next k degree)
+        counted k l = by (cases_eq k i)
           where
-            by : (k ≡ i) ⊎ (k ≡ i → ⊥) → count_at next k degree ≡ suc (count_at old k degree)
-            by (inl e) = subst (λ (j : ℕ). count_at next j degree ≡ suc (count_at old j degree)) (sym e) here
-            by (inr d) = other k degree small (λ p. d p.0) ∙ a.counted k (below k i l d) t
-
-        passed : (k : ℕ) → k < i + 1 → (IsSubset (set_at rows k) tight → ⊥) → count_at next k degree ≡ count_at old k degree
-        passed k l t = by (cases_eq k i)
-          where
-            by : (k ≡ i) ⊎ (k ≡ i → ⊥) → count_at next k degree ≡ count_at old k degree
-            by (inl e) = absurd (t (subst (λ (j : ℕ). IsSubset (set_at rows j) tight) (sym e) s))
-            by (inr d) = other k degree small (λ p. d p.0) ∙ a.passed k (below k i l d) t
+            by : (k ≡ i) ⊎ (k ≡ i → ⊥) → IsCounted (set_at rows k) tight (count_at old k degree) (count_at next k degree)
+            by (inl e) = inl (
+              subst (λ (j : ℕ). IsSubset (set_at rows j) tight) (sym e) s,
+              subst (λ (j : ℕ). count_at next j degree ≡ suc (count_at old j degree)) (sym e) here,
+            )
+            by (inr d) = subst (IsCounted (set_at rows k) tight (count_at old k degree)) (sym (other k degree small (λ p. d p.0)))
+                (a.counted k (below k i l d))
