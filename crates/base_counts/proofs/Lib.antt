@@ -2,3 +2,4 @@ pub mod TopSteps
 pub mod Degrees
 pub mod Added
 pub mod BaseLaws
+pub mod Visited

@@ -1,3 +1,4 @@
 pub mod Tops
 pub mod Counting
 pub mod Laws
+pub mod Visited
