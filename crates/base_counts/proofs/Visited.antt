@@ -4,13 +4,15 @@ use Rattle.std.proofs.Common.{◌≡◌, ◌⊎◌, inl, inr, ℕ, suc, ◌<◌,
 use Rattle.std.proofs.lemmas.Bool.{cases_eq}
 use Rattle.lattice_theory.specs.Affine.{Affine}
 use Rattle.lattice_theory.proofs.Integers.{same_natural}
-use Rattle.face_theory.specs.Pairings.{is_zero}
+use Rattle.face_theory.specs.Pairings.{is_zero, function_at}
 use Rattle.bit_pool.specs.Bits.{IsSubset}
 use Rattle.face_closing.specs.Words.{set_of}
 use Rattle.incidence.specs.Incidences.{HasExactly}
 use Rattle.cayley_theory.specs.Counts.{sum_of}
-use Rattle.cayley_theory.specs.Bases.{HaveParts, pairing_with, IsBase, IsZeroOn, Number, none, counted, passed}
+use Rattle.cayley_theory.specs.Bases.{part_in, HaveParts, pairing_with, IsBase, IsZeroOn, Number, none, counted, passed}
 use Rattle.cayley_theory.proofs.BasePoints.{same_base}
+use Rattle.std.proofs.lemmas.List.Elements.{All-get_or}
+use Rattle.base_counts.specs.Tops.{AreOfParts}
 use Rattle.base_counts.specs.Counting.{set_at, count_at, IsCounted, IsAddedAt}
 use Rattle.base_counts.specs.Visited.{AreWithin, HasBaseOn, IsPointCounted, AreCountsOf}
 use Rattle.base_counts.proofs.BaseLaws.{sets_within_tight_lem}
@@ -82,3 +84,10 @@ module _ (r : ℕ) (vs : List Affine) (rows : List (List ℕ)) (xs : List (List 
           → Number (HasBaseOn r vs rows k l) (xs ++ x ∷ []) (count_at new k l)
       by (inl c) = subst (Number (HasBaseOn r vs rows k l) (xs ++ x ∷ [])) (sym c.1) (counted_last (numbers k l h m) c.0)
       by (inr c) = subst (Number (HasBaseOn r vs rows k l) (xs ++ x ∷ [])) (sym c.1) (passed_last (numbers k l h m) c.0)
+
+-- functions that all are of parts are so at each index
+pub have_parts : (n r : ℕ) (vs : List Affine) → AreOfParts n r vs → HaveParts n r vs
+have_parts n r vs all = record { dimension = λ i l. (at i l).0; part = λ i l. (at i l).1 }
+  where
+    at : (i : ℕ) → i < length vs → (length (function_at vs i).normal ≡ n) × (part_in (function_at vs i) < r)
+    at i l = All-get_or (λ (f : Affine). (length f.normal ≡ n) × (part_in f < r)) vs i (record { normal = []; constant = pos 0 }) l all

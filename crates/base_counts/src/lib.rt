@@ -11,10 +11,12 @@
 mod base;
 mod counts;
 mod laws;
+mod visit;
 
 pub use base::{LOWEST, base_into, degree_of, tight_into};
 pub use counts::{DEGREES, add_point};
 pub use laws::{sets_within_tight, tops_are_bases};
+pub use visit::count_point;
 
 #[cfg(test)]
 mod tests;
