@@ -3,3 +3,4 @@ pub mod Degrees
 pub mod Added
 pub mod BaseLaws
 pub mod Visited
+pub mod Words

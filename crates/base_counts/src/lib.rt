@@ -5,7 +5,7 @@
 //!
 //! Its central theorem: the heights that are found are the base of the definition (`base_into`, `tops_are_bases`), words tell exactly the vectors that
 //! pair to 0 with the point and its base, and with them the sets on which all do (`tight_into`, `sets_within_tight`), for which a point is counted
-//! (`add_point`).
+//! (`add_point`) at the degree of its base (`count_point`).
 #![tactic(auto)]
 
 mod base;

@@ -15,7 +15,14 @@ use lattice_core::{Functional, Point};
 
 /// Counts a point at the degree of its base, if that is told apart, for each set of vectors that pair to 0 with it. `base` has a height for each part,
 /// and `tight` has words for the vectors: both are written over.
-pub fn count_point(counts: &mut [u32], sets: &Generation, vectors: &[Functional], x: &Point, base: &mut [i128], tight: &mut [u64])
+pub fn count_point(
+    counts: &mut [u32],
+    sets: &Generation,
+    vectors: &[Functional],
+    x: &Point,
+    base: &mut [i128],
+    tight: &mut [u64],
+)
     requires vectors { AreOfParts (length x.now) (length base.old) vectors.now }
     requires parts { HaveAllParts (length base.old) vectors.now }
     requires few { length base.old ≤ 3 }

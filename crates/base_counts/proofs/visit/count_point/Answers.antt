@@ -19,15 +19,15 @@ returns-then-degree-lt0-clause-counted c = point_passed (length c.args.x.now) (l
     out : (l : ℕ) → l < 7 → sum_of c.base_into.new.base ≡ pos l → ⊥
     out l m e = elim c.then-degree-lt0.branch [
       | then-degree-lt0-via-then-degree-lt0 w ↦
-        let fits : SFits w128 c.degree_of-degree.result = search rules in
-        let t : lt_z c.degree_of-degree.result (pos 0) ≡ true = simp to_z-of_z at w.if-degree-lt0.true in
-        let d = c.degree_of-degree.ensures in
-        omega (arith, ints, t, d, e)
+          let fits : SFits w128 c.degree_of-degree.result = search rules in
+          let t : lt_z c.degree_of-degree.result (pos 0) ≡ true = simp to_z-of_z at w.if-degree-lt0.true in
+          let d = c.degree_of-degree.ensures in
+          omega (arith, ints, t, d, e)
       | then-degree-lt0-via-else-degree-lt0+then-degree w ↦
-        let fits : SFits w128 c.degree_of-degree.result = search rules in
-        let t : le_z (pos 7) c.degree_of-degree.result ≡ true = simp to_z-of_z at w.if-degree.true in
-        let d = c.degree_of-degree.ensures in
-        omega (arith, ints, t, d, e, m)
+          let fits : SFits w128 c.degree_of-degree.result = search rules in
+          let t : le_z (pos 7) c.degree_of-degree.result ≡ true = simp to_z-of_z at w.if-degree.true in
+          let d = c.degree_of-degree.ensures in
+          omega (arith, ints, t, d, e, m)
     ]
 
 pub returns-clause-counted : goal.returns-clause-counted
