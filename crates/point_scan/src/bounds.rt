@@ -9,11 +9,22 @@ ghost use Rattle.point_scan.specs.ProjectionSteps.{IsBound};
 use bit_rows::{BitRow, MOST_INDICES};
 use lattice_core::{Functional, Point, pair};
 
-/// A function that is nonnegative at all vertices, and which of the first 128 of them it vanishes at.
+/// A function that is nonnegative at all vertices, which of the first 128 of them it vanishes at, and the last coordinate that it speaks of.
 #[derive(Drop)]
 pub(crate) struct Bound {
     pub(crate) function: Functional,
     pub(crate) on: BitRow,
+    pub(crate) end: usize,
+}
+
+/// The place of the last entry that isn't 0, or 0 where all are.
+fn end_of(normal: &[i64]) -> usize {
+    for k in (0..normal.len()).rev() {
+        if normal[k] != 0 {
+            return k;
+        }
+    }
+    0
 }
 
 /// The bound with this normal. Its least value at the vertices is 0.
@@ -36,7 +47,11 @@ pub(crate) fn bound_at(normal: &[i64], vertices: &[Point]) -> Bound
         }
     }
     match Functional::new(normal, -least) {
-        Some(function) => Bound { function, on },
+        Some(function) => Bound {
+            function,
+            on,
+            end: end_of(normal),
+        },
         None => unreachable!(),
     }
 }

@@ -17,21 +17,11 @@ use std::alloc::Global;
 /// The most bounds that are kept.
 const MOST_BOUNDS: usize = 256;
 
-/// Whether no entry behind the place `k` differs from 0.
-fn ends_by(normal: &[i64], k: usize) -> bool {
-    for i in 0..normal.len() {
-        if i > k && normal[i] != 0 {
-            return false;
-        }
-    }
-    true
-}
-
 /// Whether two bounds of the first `k` + 1 coordinates, and no third one, vanish at all these vertices.
 fn is_ridge(bounds: &[Bound], on: BitRow, k: usize) -> bool {
     let mut holding = 0_u8;
     for bound in bounds {
-        if on.is_part_of(bound.on) && ends_by(bound.function.normal(), k) {
+        if bound.end <= k && on.is_part_of(bound.on) {
             if holding == 2 {
                 return false;
             }
@@ -53,7 +43,7 @@ fn projected(bounds: &[Bound], vertices: &[Point], k: usize, i: usize, j: usize)
 {
     let rising = bounds[i].function.normal();
     let falling = bounds[j].function.normal();
-    if rising[k] <= 0 || falling[k] >= 0 || !ends_by(falling, k) {
+    if rising[k] <= 0 || falling[k] >= 0 || bounds[j].end > k {
         return None;
     }
     if !is_ridge(bounds, bounds[i].on.meet(bounds[j].on), k) {
@@ -119,7 +109,7 @@ fn project(bounds: &mut Vec<Bound>, vertices: &[Point], k: usize) -> Result<(), 
 {
     let many = bounds.len();
     for i in 0..many {
-        if bounds[i].function.normal()[k] > 0 && ends_by(bounds[i].function.normal(), k) {
+        if bounds[i].end == k && bounds[i].function.normal()[k] > 0 {
             project_with(bounds, vertices, k, i, many)?;
         }
     }
@@ -143,7 +133,7 @@ fn facet_bounds(
     Ok(bounds)
 }
 
-/// A bound for each facet, and then bounds on fewer coordinates that these imply.
+/// A bound for each facet, and then bounds on fewer coordinates that these imply, down to two: the box bounds the first one.
 pub(crate) fn bounds_of(
     alloc: Global,
     vertices: &[Point],
@@ -154,7 +144,7 @@ pub(crate) fn bounds_of(
     ensures { IfOk result (λ bounds. All (λ b. IsBound (dimension_of vertices.now) vertices.now b.function) bounds.items) }
 {
     let mut bounds = facet_bounds(alloc, vertices, facets)?;
-    for k in (1..vertices[0].dim()).rev() {
+    for k in (2..vertices[0].dim()).rev() {
         project(&mut bounds, vertices, k)?;
     }
     Ok(bounds)
