@@ -1,6 +1,6 @@
 -- Rows of words as sets: a closed table has what rows of functions have in common, so in the end the faces.
 use Rattle.std.specs.List.{AllPairs}
-use Rattle.std.proofs.Common.{◌≡◌, ◌≢◌, inl, inr, ⊎_elim, ℕ, zero, suc, ◌+◌, ◌*◌, ◌/◌, ◌%◌, ◌^◌, ◌<◌, ◌≤◌, min, Bool, ◌==◌, List, [], ◌∷◌, length, map, get_or, Contains, refl, sym, ap, ◌∙◌, subst, arith, le_of_suc-le-suc}
+use Rattle.std.proofs.Common.{◌≡◌, ◌≢◌, inl, inr, ⊎_elim, ℕ, zero, suc, ◌+◌, ◌*◌, ◌^◌, ◌<◌, ◌≤◌, Bool, ◌==◌, List, [], ◌∷◌, length, map, get_or, Contains, refl, sym, ap, ◌∙◌, subst, arith, le_of_suc-le-suc}
 use Rattle.std.proofs.lemmas.Bool.{cases_lt}
 use Rattle.std.proofs.lemmas.List.{get_or-map, length-map}
 use Rattle.std.proofs.lemmas.List.Elements.{All-from_get_or}
@@ -8,7 +8,7 @@ use Rattle.std.proofs.lemmas.Nat.{and_le_l}
 use Rattle.std.proofs.lemmas.Nat.Bits.{bit_at-lt, same_from_bits_below}
 use Rattle.lattice_theory.proofs.Members.{In, here, there, each_from_all, all_from_each, each_in, each_from_in, in_from_contains, contains_from_in}
 use Rattle.lattice_theory.proofs.Sublists.{in_map, from_map}
-use Rattle.bit_pool.specs.Bits.{bit_of, HasBit}
+use Rattle.bit_pool.specs.Bits.{bit_of}
 use Rattle.face_theory.specs.Sets.{in_set, common}
 use Rattle.face_theory.specs.Faces.{TightRelation, IsFace}
 use Rattle.face_theory.specs.Meets.{function_row, IsRowMeet, IsMadeBy}

@@ -1,18 +1,18 @@
 -- Ranks of rows that are faces in order, from those of their parts.
-use Rattle.std.specs.List.{All, AllPairs}
-use Rattle.std.proofs.Common.{◌≡◌, ◌≢◌, ◌⊎◌, inl, inr, ⊎_elim, ◌↔◌, ℕ, zero, suc, ◌+◌, ◌<◌, ◌≤◌, max, Bool, List, [], ◌∷◌, length, map, get_or, Contains, refl, sym, ap, ◌∙◌, subst, arith, le_of_suc-le-suc}
+use Rattle.std.specs.List.{AllPairs}
+use Rattle.std.proofs.Common.{◌≡◌, ◌≢◌, ◌⊎◌, inl, inr, ⊎_elim, ℕ, zero, suc, ◌+◌, ◌<◌, ◌≤◌, max, Bool, List, [], ◌∷◌, length, map, get_or, Contains, refl, sym, ap, ◌∙◌, subst, arith, le_of_suc-le-suc}
 use Rattle.std.proofs.lemmas.Bool.{cases_lt}
-use Rattle.lattice_theory.proofs.Members.{Each, In, here, there, each_from_all, each_in, in_from_contains, contains_from_in}
+use Rattle.lattice_theory.proofs.Members.{In, here, there, each_from_all, each_in, in_from_contains, contains_from_in}
 use Rattle.lattice_theory.proofs.Sublists.{in_map, from_map}
-use Rattle.bit_pool.specs.Bits.{HasBit, bit_of}
+use Rattle.bit_pool.specs.Bits.{HasBit}
 use Rattle.face_theory.specs.Sets.{common}
 use Rattle.face_theory.specs.Faces.{TightRelation, IsFace, IsRank}
-use Rattle.face_theory.specs.Meets.{function_row, IsOverMeets}
+use Rattle.face_theory.specs.Meets.{function_row}
 use Rattle.face_theory.proofs.MeetRanks.{common_face, rank_by_meets_lem}
 use Rattle.face_closing.specs.Words.{set_of, IsSetOf, meet_words, IsEarlier}
 use Rattle.face_closing.specs.Tables.{AreFunctionRows, AreFaceRows}
 use Rattle.face_closing.specs.steps.Chains.{row_at}
-use Rattle.face_closing.specs.steps.PartRanks.{AreLow, HasRank, StandsBelow, IsPartRank}
+use Rattle.face_closing.specs.steps.PartRanks.{AreLow, HasRank, IsPartRank}
 use Rattle.face_closing.proofs.SetWords.{set_of-meet, meet_has}
 use Rattle.face_closing.proofs.MeetRows.{meet_is_set, same_from_sets}
 

@@ -31,6 +31,14 @@ meet_entry (w ∷ words) [] e k = absurd (omega arith)
 meet_entry (w ∷ words) (o ∷ others) e zero = refl
 meet_entry (w ∷ words) (o ∷ others) e (suc k) = meet_entry words others (omega arith) k
 
+-- sets of one word each
+pub meet_of_word : (words others : List ℕ) → length words ≡ 1 → length others ≡ 1 → bit_and (get_or words 0 0) (get_or others 0 0) ∷ [] ≡ meet_words words others
+meet_of_word [] others e f = absurd (omega arith)
+meet_of_word (w ∷ words) [] e f = absurd (omega arith)
+meet_of_word (w ∷ []) (o ∷ []) e f = refl
+meet_of_word (w ∷ []) (o ∷ p ∷ others) e f = absurd (omega arith)
+meet_of_word (w ∷ v ∷ words) (o ∷ others) e f = absurd (omega arith)
+
 -- the bits of what two sets have in common
 min_one : (p q : ℕ) → p < 2 → q < 2 → (min p q == 1) ≡ ((p == 1) && (q == 1))
 min_one zero zero h k = refl

@@ -13,6 +13,7 @@ use crate::words::meet_into;
 use bit_pool::Generation;
 
 /// One more than the rank of a part of the row at a place; 0 where the part is the row itself.
+#[inline]
 fn rank_over_part(sorted: &RowTable, ranks: &[u16], place: usize, part: &[u64]) -> u16
     requires place { place < length sorted.now.rows }
     requires many { length ranks.now ≡ length sorted.now.rows }
@@ -26,6 +27,31 @@ fn rank_over_part(sorted: &RowTable, ranks: &[u16], place: usize, part: &[u64]) 
         Some(found) => ranks[found] + 1,
         None => 0,
     }
+}
+
+/// The rank of the row at a place as `rank_at` tells it, where a row is one word.
+fn rank_of_word(sorted: &RowTable, rows: &Generation, ranks: &[u16], place: usize) -> u16
+    requires word { sorted.now.row_words ≡ 1 }
+    requires place { place < length sorted.now.rows }
+    requires many { length ranks.now ≡ length sorted.now.rows }
+    requires low { AreLow ranks.now }
+    requires long { All (λ row. length row ≡ sorted.now.row_words) rows.now.rows }
+    requires ascending { AllPairs IsEarlier sorted.now.rows }
+    ensures low { result + place < length ranks.now }
+    ensures rank { (R : TightRelation) → AreFunctionRows sorted.now.row_words R rows.now.rows → AreFaceRows sorted.now.row_words R sorted.now.rows
+        → ((k : ℕ) → place < k → k < length ranks.now → HasRank R sorted.now.rows ranks.now k)
+        → IsRank R (set_of R.members (row_at sorted.now.rows place)) result }
+{
+    let here = sorted.row(place)[0];
+    let mut rank = 0;
+    for function in 0..rows.len() {
+        let part = [here & rows.row(function)[0]];
+        let next = rank_over_part(sorted, ranks, place, &part);
+        if next > rank {
+            rank = next;
+        }
+    }
+    rank
 }
 
 /// The rank of the row at a place, where the rows are all faces in order and those behind it have these ranks.
@@ -48,6 +74,9 @@ fn rank_at(
         → ((k : ℕ) → place < k → k < length ranks.now → HasRank R sorted.now.rows ranks.now k)
         → IsRank R (set_of R.members (row_at sorted.now.rows place)) result }
 {
+    if space.len() == 1 {
+        return rank_of_word(sorted, rows, ranks, place);
+    }
     let mut rank = 0;
     for function in 0..rows.len() {
         meet_into(space, sorted.row(place), rows.row(function));

@@ -59,6 +59,7 @@ impl RowTable {
     }
 
     /// The row at a place.
+    #[inline]
     pub fn row(&self, place: usize) -> &[u64]
         requires { place < length self.now.rows }
         ensures value { result.now ≡ slice_index_or self.now.rows place [] }
@@ -69,6 +70,7 @@ impl RowTable {
     }
 
     /// The place of a row that has these words, or `None` where there is no such row.
+    #[inline]
     pub fn find(&self, words: &[u64]) -> Option<usize>
         ensures { MatchOption result (Contains self.now.rows words.now → ⊥)
             (λ i. (i < length self.now.rows) × (slice_index_or self.now.rows i [] ≡ words.now)) }

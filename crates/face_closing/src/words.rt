@@ -36,6 +36,7 @@ pub fn compare(words: &[u64], others: &[u64]) -> Ordering
 }
 
 /// The bucket in which a row is found.
+#[inline]
 pub(crate) fn bucket(words: &[u64]) -> usize
     ensures value { result ≡ bucket_of words.now }
     ensures below { result < 4096 }

@@ -1,4 +1,4 @@
-use Rattle.std.proofs.Common.{◌≡◌, ◌+◌, ◌<◌, ◌≤◌, ℕ, max, List, [], length, refl, sym, ap, ◌∙◌, subst, arith}
+use Rattle.std.proofs.Common.{◌≡◌, ◌+◌, ℕ, max, List, [], length, sym, ap, ◌∙◌, subst, arith}
 use Rattle.face_closing.specs.Words.{set_of, meet_words}
 use Rattle.face_closing.specs.steps.Chains.{row_at}
 use Rattle.face_closing.proofs.MeetRows.{function_within}

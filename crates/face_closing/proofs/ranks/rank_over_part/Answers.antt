@@ -1,4 +1,4 @@
-use Rattle.std.proofs.Common.{◌+◌, ◌<◌, ◌≤◌, arith}
+use Rattle.std.proofs.Common.{arith}
 use Rattle.face_closing.proofs.ranks.rank_over_part.Goals as goal
 
 pub overflow_add-result : goal.overflow_add-result

@@ -1,0 +1,57 @@
+use Rattle.std.proofs.Common.{◌≡◌, ◌+◌, ℕ, max, List, [], ◌∷◌, length, slice_index_or, bit_and, sym, ap, ◌∙◌, subst, arith}
+use Rattle.face_closing.specs.Words.{set_of, meet_words}
+use Rattle.face_closing.specs.steps.Chains.{row_at}
+use Rattle.face_closing.proofs.SetWords.{meet_of_word}
+use Rattle.face_closing.proofs.MeetRows.{function_within}
+use Rattle.face_closing.proofs.PartRanks.{IsOverFirst, part_low, part_says, over_none, over_next, over_all, row_is_face}
+use Rattle.face_closing.proofs.ranks.rank_of_word.Goals as goal
+use Rattle.face_closing.proofs.ranks.rank_of_word.Goals.{then-next-rank, else-next-rank}
+
+pub loop-function-init : goal.loop-function-init
+loop-function-init c =
+    let l = c.requires.place in
+    let m = c.requires.many in
+    record {
+      low = omega arith;
+      over = λ R told faces known. over_none R (set_of R.members (row_at c.args.sorted.now.rows c.args.place));
+    }
+
+pub loop-function-preserved : goal.loop-function-preserved
+loop-function-preserved c =
+    let n = c.len-function-end.ensures in
+    let t = c.loop-function-test.true in
+    let here = c.row.ensures.words ∙ c.requires.word in
+    let there : length c.row-in-loop-function.result.now ≡ c.args.sorted.now.row_words =
+    ap length c.row-in-loop-function.ensures ∙ c.requires.long c.loop-function.function [] (omega arith) in
+    let is : bit_and (slice_index_or c.row.result.now 0 0) (slice_index_or c.row-in-loop-function.result.now 0 0) ∷ []
+    ≡ meet_words (row_at c.args.sorted.now.rows c.args.place) c.row-in-loop-function.result.now =
+    meet_of_word c.row.result.now c.row-in-loop-function.result.now here (there ∙ c.requires.word)
+    ∙ ap (λ (w : List ℕ). meet_words w c.row-in-loop-function.result.now) c.row.ensures.value in
+    let long = sym (ap length c.row.ensures.value) ∙ c.row.ensures.words ∙ sym there in
+    let part = part_low c.args.sorted.now.rows c.args.ranks.now c.args.place _ c.row-in-loop-function.result.now c.rank_over_part-next.result
+    c.requires.ascending c.requires.place c.requires.many c.requires.low long is c.rank_over_part-next.ensures in
+    let before = c.loop-function.invariant.low in
+    let larger : c.if-next-rank.rank ≡ max c.loop-function.rank c.rank_over_part-next.result =
+    elim c.if-next-rank.branch [ then-next-rank w ↦ omega arith | else-next-rank w ↦ omega arith ] in
+    record {
+      low = omega arith;
+      over = λ R told faces known. subst (IsOverFirst R (set_of R.members (row_at c.args.sorted.now.rows c.args.place)) (c.loop-function.function + 1)) (sym larger)
+          (over_next R (set_of R.members (row_at c.args.sorted.now.rows c.args.place)) c.loop-function.function c.loop-function.rank c.rank_over_part-next.result
+          (c.loop-function.invariant.over R told faces known)
+          (part_says c.args.sorted.now.row_words R c.args.rows.now.rows c.args.sorted.now.rows c.args.ranks.now c.args.place told faces
+          c.requires.ascending c.requires.place c.requires.many known c.loop-function.function (function_within told (omega arith))
+          c.row-in-loop-function.result.now _ c.row-in-loop-function.ensures is c.rank_over_part-next.result c.rank_over_part-next.ensures));
+    }
+
+pub returns-clause-low : goal.returns-clause-low
+returns-clause-low c = c.loop-function.invariant.low
+
+pub returns-clause-rank : goal.returns-clause-rank
+returns-clause-rank c = λ R told faces known.
+    let n = c.len-function-end.ensures in
+    let t = c.loop-function-test.false in
+    let e = c.loop-function.auto.function-end in
+    let m = told.many in
+    over_all R (set_of R.members (row_at c.args.sorted.now.rows c.args.place)) c.loop-function.function c.loop-function.rank
+    (row_is_face c.args.sorted.now.row_words R c.args.sorted.now.rows c.args.place faces c.requires.place) (omega arith) (omega arith)
+    (c.loop-function.invariant.over R told faces known)
