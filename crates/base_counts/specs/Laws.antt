@@ -1,16 +1,13 @@
 -- The laws of bases, as statements. This project's own.
-use Rattle.std.specs.Prelude.{◌≡◌, ◌↔◌, ℕ, ◌<◌, ◌≤◌, List, length, ℤ}
+use Rattle.std.specs.Prelude.{◌≡◌, ◌↔◌, ℕ, ◌≤◌, List, length, ℤ}
 use Rattle.lattice_theory.specs.Affine.{Affine}
-use Rattle.face_theory.specs.Pairings.{is_zero, function_at}
+use Rattle.face_theory.specs.Pairings.{is_zero}
 use Rattle.bit_pool.specs.Bits.{HasBit, IsSubset}
 use Rattle.face_closing.specs.Words.{set_of}
 use Rattle.incidence.specs.Incidences.{HasExactly}
-use Rattle.cayley_theory.specs.Bases.{part_in, pairing_with, IsBase, IsZeroOn}
+use Rattle.cayley_theory.specs.Bases.{pairing_with, IsBase, IsZeroOn}
+pub use Rattle.cayley_theory.specs.Bases.{HaveAllParts}
 use Rattle.base_counts.specs.Tops.{IsTopOf}
-
--- each of r parts has a vector
-abbrev pub HaveAllParts : ℕ → List Affine → Type 0
-HaveAllParts r vs = (j : ℕ) → j < r → (i : ℕ) × (i < length vs) × (part_in (function_at vs i) ≡ j)
 
 -- the least heights over all vectors are the base of the point, where each part has a vector
 abbrev pub TopsAreBases : Type 0

@@ -30,7 +30,7 @@ later_entry : (p d e : ℤ) → p ≡ pos 0 → d ≡ e → p +ℤ d ≡ e
 later_entry p d e f g = omega (arith, linear, f, g)
 
 -- lists of which the fronts are as long, and the wholes the same
-split_same : (x y a b : List ℤ) → length x ≡ length y → x ++ a ≡ y ++ b → (x ≡ y) × (a ≡ b)
+pub split_same : (x y a b : List ℤ) → length x ≡ length y → x ++ a ≡ y ++ b → (x ≡ y) × (a ≡ b)
 split_same [] [] a b e h = (refl, h)
 split_same [] (d ∷ y) a b e h = absurd (omega arith)
 split_same (c ∷ x) [] a b e h = absurd (omega arith)
@@ -47,7 +47,7 @@ dot-unit_vector (suc r) (suc i) (c ∷ a) h l =
     later_entry (pos 0 *ℤ c) (dot (unit_vector r i) a) (entry a i) (zero-*ℤ c) (dot-unit_vector r i a (omega arith) (omega arith))
 
 -- a number in a list, and one past its end
-function_in : (r : ℕ) (vs : List Affine) (i : ℕ) → i < length vs → vector_at (lifted_all r vs) i ≡ lifted_one r (function_at vs i)
+pub function_in : (r : ℕ) (vs : List Affine) (i : ℕ) → i < length vs → vector_at (lifted_all r vs) i ≡ lifted_one r (function_at vs i)
 function_in r [] i h = absurd (omega arith)
 function_in r (v ∷ vs) zero h = refl
 function_in r (v ∷ vs) (suc i) h = function_in r vs i (omega arith)

@@ -1,4 +1,4 @@
--- That a part has at most one point at a vertex.
+-- That a part has at most one point at a vertex: a vector is told by its pairings with the normals on which the vertex is -1.
 use Rattle.std.proofs.Common.{◌≡◌, ◌⊎◌, ℕ, ◌<◌, List, [], length, ℤ, pos, negsuc, ◌+ℤ◌, ◌*ℤ◌, sym, ap, ◌∙◌, subst, inl, inr, arith, slice_index_or}
 use Rattle.std.proofs.lemmas.Bool.{cases_eq}
 use Rattle.std.proofs.lemmas.List.{get_or_default}
@@ -24,16 +24,9 @@ same_from_difference a b c e h = let f = one-*ℤ a in let g = minus_one-*ℤ b 
 one_more : (a : ℤ) → a +ℤ pos 1 ≡ pos 0 → a ≡ negsuc 0
 one_more a e = omega (arith, linear)
 
-module _ (n : ℕ) (normals : List (List ℤ)) (parts : List ℕ) (m : List ℤ) (i : ℕ) (x y : List ℤ) (p : IsPartPoint n normals parts m i x)
-    (q : IsPartPoint n normals parts m i y) where
-  -- they pair alike with the normals on which the vertex is -1
-  alike_at : (e : ℕ) → e < length normals → pairing_at normals m e ≡ negsuc 0 → pairing_at normals x e ≡ pairing_at normals y e
-  alike_at e l t = by (cases_eq (part_at parts e) i)
-    where
-      by : (part_at parts e ≡ i) ⊎ (part_at parts e ≡ i → ⊥) → pairing_at normals x e ≡ pairing_at normals y e
-      by (inl s) = p.own e l t s ∙ sym (q.own e l t s)
-      by (inr s) = p.others e l t s ∙ sym (q.others e l t s)
-
+-- where (m, 1) is a facet of the normals, vectors that pair alike with the normals on which m is -1 are the same
+module _ (n : ℕ) (normals : List (List ℤ)) (m x y : List ℤ) (dx : length x ≡ n) (dy : length y ≡ n)
+    (alike_at : (e : ℕ) → e < length normals → pairing_at normals m e ≡ negsuc 0 → pairing_at normals x e ≡ pairing_at normals y e) where
   -- the difference of the two, as a function
   abbrev of_difference : Affine
   of_difference = record { normal = combined (pos 1) x (negsuc 0) y; constant = pos 0 }
@@ -57,9 +50,20 @@ module _ (n : ℕ) (normals : List (List ℤ)) (parts : List ℕ) (m : List ℤ)
       let e = factor_zero h.left (entry (combined (pos 1) x (negsuc 0) y) k) h.nonzero (sym a ∙ c ∙ b ∙ d) in
       same_from_difference (entry x k) (entry y k) (entry (combined (pos 1) x (negsuc 0) y) k) (entry-combined (pos 1) x (negsuc 0) y k) e
 
-  same_point : IsFacet n normals (with_one m) → x ≡ y
-  same_point facet = same_from_entries x y (p.dimension ∙ sym q.dimension)
-      (entries (facet.determined of_difference (length-combined n (pos 1) x (negsuc 0) y p.dimension q.dimension) vanishes))
+  pub same_where_tight : IsFacet n normals (with_one m) → x ≡ y
+  same_where_tight facet = same_from_entries x y (dx ∙ sym dy)
+      (entries (facet.determined of_difference (length-combined n (pos 1) x (negsuc 0) y dx dy) vanishes))
+
+module _ (n : ℕ) (normals : List (List ℤ)) (parts : List ℕ) (m : List ℤ) (i : ℕ) (x y : List ℤ) (p : IsPartPoint n normals parts m i x)
+    (q : IsPartPoint n normals parts m i y) where
+  -- points of a part pair alike with the normals on which the vertex is -1
+  alike_tight : (e : ℕ) → e < length normals → pairing_at normals m e ≡ negsuc 0 → pairing_at normals x e ≡ pairing_at normals y e
+  alike_tight e l t = by (cases_eq (part_at parts e) i)
+    where
+      by : (part_at parts e ≡ i) ⊎ (part_at parts e ≡ i → ⊥) → pairing_at normals x e ≡ pairing_at normals y e
+      by (inl s) = p.own e l t s ∙ sym (q.own e l t s)
+      by (inr s) = p.others e l t s ∙ sym (q.others e l t s)
 
 pub part_points_are_single_lem : PartPointsAreSingle
-part_points_are_single_lem n normals parts m i x y facet p q = same_point n normals parts m i x y p q facet
+part_points_are_single_lem n normals parts m i x y facet p q =
+    same_where_tight n normals m x y p.dimension q.dimension (alike_tight n normals parts m i x y p q) facet

@@ -1,13 +1,15 @@
 -- Repeated sums of numbers: of sums of numbers, and of one number alone.
-use Rattle.std.proofs.Common.{◌≡◌, ℕ, zero, suc, ◌+◌, ◌<◌, refl, ap, ap₂, ◌∙◌, arith}
+use Rattle.std.proofs.Common.{◌≡◌, ℕ, zero, suc, ◌+◌, ◌<◌, ◌≤◌, refl, ap, ap₂, ◌∙◌, arith}
 use Rattle.cayley_theory.specs.Bases.{summed}
 use Rattle.cayley_theory.proofs.Raised.{first_one}
 
-pub summed_same : (k : ℕ) (f g : ℕ → ℕ) → ((i : ℕ) → f i ≡ g i) → (s : ℕ) → summed k f s ≡ summed k g s
+-- sums of numbers that are the same that far
+pub summed_same : (k : ℕ) (f g : ℕ → ℕ) (s : ℕ) → ((i : ℕ) → i ≤ s → f i ≡ g i) → summed k f s ≡ summed k g s
 unfolding summed
-summed_same zero f g h s = h s
-summed_same (suc k) f g h zero = summed_same k f g h zero
-summed_same (suc k) f g h (suc s) = ap₂ (λ (a b : ℕ). a + b) (summed_same (suc k) f g h s) (summed_same k f g h (suc s))
+summed_same zero f g s h = h s (omega arith)
+summed_same (suc k) f g zero h = summed_same k f g zero h
+summed_same (suc k) f g (suc s) h =
+    ap₂ (λ (a b : ℕ). a + b) (summed_same (suc k) f g s (λ i l. h i (omega arith))) (summed_same k f g (suc s) h)
 
 four : (a b c d : ℕ) → (a + b) + (c + d) ≡ (a + c) + (b + d)
 four a b c d = omega arith
@@ -53,7 +55,7 @@ unfolding one_at
 at_zero i = refl
 
 pub summed_from : (k l d s : ℕ) → l + d ≡ s → summed k (one_at l) s ≡ summed k first_one d
-summed_from k zero d s h = summed_same k (one_at zero) first_one at_zero s ∙ ap (summed k first_one) (let e : s ≡ d = omega (arith, h) in e)
+summed_from k zero d s h = summed_same k (one_at zero) first_one s (λ i l. at_zero i) ∙ ap (summed k first_one) (let e : s ≡ d = omega (arith, h) in e)
 summed_from k (suc l) d zero h = absurd (omega (arith, h))
 summed_from k (suc l) d (suc s) h = later k l s ∙ summed_from k l d s (omega (arith, h))
 

@@ -25,6 +25,10 @@ pub record HaveParts (n r : ℕ) (vs : List Affine) : Type 0 where
   pub dimension : (i : ℕ) → i < length vs → length (function_at vs i).normal ≡ n
   pub part : (i : ℕ) → i < length vs → part_in (function_at vs i) < r
 
+-- each of r parts has a vector
+abbrev pub HaveAllParts : ℕ → List Affine → Type 0
+HaveAllParts r vs = (j : ℕ) → j < r → (i : ℕ) × (i < length vs) × (part_in (function_at vs i) ≡ j)
+
 -- what the i-th vector pairs to with the point x and the heights a
 abbrev pub pairing_with : List Affine → List ℤ → List ℤ → ℕ → ℤ
 pairing_with vs x a i = dot (function_at vs i).normal x +ℤ entry a (part_in (function_at vs i))

@@ -54,11 +54,11 @@ DualCountsAreSingle = (n r : ℕ) (members : List (List ℤ)) (face : List Bool)
     → CountsOnDualFace n r members face s j → CountsOnDualFace n r members face s k → j ≡ k
 
 -- the integer vectors of a degree that are nonnegative on the vectors, and 0 on those of a set, are counted by bases: as often as a part is free,
--- the numbers are summed of the points whose base is 0 on the set and has one degree after the other. The points are in order, have bases, and are
--- at least all that these vectors have
+-- the numbers are summed of the points whose base is 0 on the set and has one degree after the other, up to this one. The points are in order,
+-- have bases, and are at least all that these vectors have
 abbrev pub CountsByBases : Type 0
 CountsByBases = (n r : ℕ) (vs : List Affine) (set free : List Bool) (s : ℕ) (points : List (List ℤ)) (counts : ℕ → ℕ) → HaveParts n r vs
     → length set ≡ length vs → AreFreeParts r vs set free → Ascends LexLess points → HaveDimension n points → All (HasDegree r vs) points
     → ((x a : List ℤ) → IsConePair n r (lifted_all r vs) set s (x ++ a) → length x ≡ n → Contains points x)
-    → ((l : ℕ) → Number (HasBaseOf r vs set l) points (counts l))
+    → ((l : ℕ) → l ≤ s → Number (HasBaseOf r vs set l) points (counts l))
     → (pairs : List (List ℤ)) × Lists LexLess (IsConePair n r (lifted_all r vs) set s) pairs × (summed (set_size free) counts s ≡ length pairs)
