@@ -5,5 +5,5 @@ pub mod PairFacts
 pub mod ConeMade
 pub mod TopRanks
 mod FoundPartitions
-mod PolytopeSide
-mod DualSide
+pub mod PolytopeSide
+pub mod DualSide

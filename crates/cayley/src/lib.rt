@@ -18,7 +18,10 @@ mod tight;
 mod vectors;
 
 pub use cone::Cone;
-pub use laws::{cone_top_rank_bound, dual_faces_are_counted, faces_are_counted, found_are_partitions, parts_have_vectors};
+pub use laws::{
+    cone_top_rank_bound, dual_faces_are_counted, faces_are_counted, found_are_partitions,
+    parts_have_vectors,
+};
 pub use limits::{MOST_RANK, MOST_SCANNED};
 pub use scans::{rank_limits, scan_limits};
 
