@@ -16,8 +16,8 @@ use lattice_core::{Functional, Point, pair};
 /// What stands for no height: it is below all heights that are worked out.
 pub const LOWEST: i128 = -1_267_650_600_228_229_401_496_703_205_376;
 
-/// The part of a vector.
-fn part_of(f: &Functional) -> usize
+/// The part of a vector that is kept with it.
+pub fn part_of(f: &Functional) -> usize
     requires { part_in f.now < 2 ^ 32 }
     ensures { result ≡ part_in f.now }
 {

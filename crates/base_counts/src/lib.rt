@@ -13,7 +13,7 @@ mod counts;
 mod laws;
 mod visit;
 
-pub use base::{LOWEST, base_into, degree_of, tight_into};
+pub use base::{LOWEST, base_into, degree_of, part_of, tight_into};
 pub use counts::{DEGREES, add_point};
 pub use laws::{sets_within_tight, tops_are_bases};
 pub use visit::count_point;

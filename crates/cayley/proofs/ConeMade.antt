@@ -1,5 +1,5 @@
 -- The cone of a partition, made of the lists that are kept.
-use Rattle.std.proofs.Common.{◌≡◌, ◌⊎◌, ◌↔◌, ℕ, zero, suc, ◌/◌, ◌^◌, ◌<◌, ◌≤◌, Bool, List, [], length, ℤ, refl, sym, ap, ap₂, ◌∙◌, subst, inl, inr, arith, slice_index_or}
+use Rattle.std.proofs.Common.{◌≡◌, ◌⊎◌, ◌↔◌, ℕ, zero, suc, ◌/◌, ◌^◌, ◌<◌, ◌≤◌, Bool, List, [], length, ℤ, pos, refl, sym, ap, ap₂, ◌∙◌, subst, inl, inr, arith, slice_index_or}
 use Rattle.std.specs.List.{All, Contains}
 use Rattle.std.proofs.lemmas.List.{get_or_default}
 use Rattle.std.proofs.lemmas.List.Elements.{All-contains, Contains-get_or}
@@ -7,15 +7,16 @@ use Rattle.std.proofs.Math.Nat.{mul-div_cancel_left}
 use Rattle.lattice_theory.specs.Affine.{Affine}
 use Rattle.lattice_theory.specs.Size.{absolute_sum}
 use Rattle.lattice_theory.specs.Order.{Ascends, FunctionLess}
-use Rattle.lattice_theory.proofs.Members.{Each, all_from_each, each_from_in, each_weaker, In, contains_from_in}
+use Rattle.lattice_theory.proofs.Members.{Each, all_from_each, each_from_in, each_in, each_weaker, In, in_from_contains, contains_from_in}
 use Rattle.lattice_core.specs.Dimensions.{dimension_of}
 use Rattle.cayley_theory.specs.Cones.{zero_vector}
+use Rattle.cayley_theory.specs.Bases.{part_in}
 use Rattle.cayley_theory.proofs.ConeVectors.{length-zero_vector, length_at}
 use Rattle.dual_pair.specs.Pairs.{PairState, IsPair}
 use Rattle.cayley.specs.PairCones.{IsPartition, IsConeOf}
 use Rattle.nef_theory.specs.Nef.{part_at}
-use Rattle.cayley.specs.ConeSteps.{lifted_all, kept_point, kept_normal, kept_unit, IsAmong, AddsFirst, HoldFunctions, table_of, AreSmall, IsTableOf}
-use Rattle.cayley.proofs.KeptVectors.{KeepsPart, from_none, keep_points, keep_functions, are_members, are_functions}
+use Rattle.cayley.specs.ConeSteps.{lifted_all, kept_point, kept_normal, kept_unit, IsAmong, AddsFirst, HoldFunctions, table_of, AreSmall, IsTableOf, HaveParts, IsKeptCone}
+use Rattle.cayley.proofs.KeptVectors.{KeepsPart, part_kept, from_none, keep_points, keep_functions, are_members, are_functions}
 use Rattle.cayley.proofs.Tables.{is_table}
 use Rattle.cayley.proofs.PairFacts.{same_dimension, normals_dimension, small_normals, points_dimension, facet_of, below_parts, some_part, places_within}
 
@@ -23,6 +24,19 @@ use Rattle.cayley.proofs.PairFacts.{same_dimension, normals_dimension, small_nor
 sum-zero_vector : (n : ℕ) → absolute_sum (zero_vector n) ≡ 0
 sum-zero_vector zero = refl
 sum-zero_vector (suc n) = let e = sum-zero_vector n in omega arith
+
+-- vectors that keep parts have them
+have_parts : (n r : ℕ) (vs : List Affine) → Each (λ f. length f.normal ≡ n) vs → Each (KeepsPart r) vs → HaveParts n r vs
+have_parts n r vs d k = record {
+  dimension = λ i l. each_in d (in_from_contains vs (Contains-get_or vs i none l));
+  part = λ i l. kept (each_in k (in_from_contains vs (Contains-get_or vs i none l)));
+}
+  where
+    none : Affine
+    none = record { normal = []; constant = pos 0 }
+
+    kept : {f : Affine} → KeepsPart r f → part_in f < r
+    kept {f} h = subst (λ (j : ℕ). j < r) (sym (part_kept f.constant h.part h.constant_is)) h.within
 
 module _ (pair : PairState) (is : IsPair pair) (part_of places : List ℕ) (h : IsPartition pair part_of places) where
   abbrev n : ℕ
@@ -96,9 +110,16 @@ module _ (pair : PairState) (is : IsPair pair) (part_of places : List ℕ) (h : 
   keep_fs : Each (KeepsPart h.parts) fs
   keep_fs = keep_functions dim pair.n.vertices h.parts part_of below fs functions
 
-  pub table_is : (t : List Bool) → t ≡ table_of fs ms → IsTableOf (lifted_all h.parts ms) (lifted_all h.parts fs) t
-  table_is t e = subst (IsTableOf (lifted_all h.parts ms) (lifted_all h.parts fs)) (sym e)
-      (is_table dim h.parts ms fs keep_ms keep_fs member_dimension (each_weaker (λ f s. s.0) small_functions))
+  function_dimension : Each (λ f. length f.normal ≡ dim) fs
+  function_dimension = each_weaker (λ f s. s.0) small_functions
+
+  pub lists_are : (t : List Bool) → t ≡ table_of fs ms → IsKeptCone dim h.parts ms fs t
+  lists_are t e = record {
+    member_parts = have_parts dim h.parts ms member_dimension keep_ms;
+    function_parts = have_parts dim h.parts fs function_dimension keep_fs;
+    table = subst (IsTableOf (lifted_all h.parts ms) (lifted_all h.parts fs)) (sym e)
+        (is_table dim h.parts ms fs keep_ms keep_fs member_dimension function_dimension);
+  }
 
   pub cone_is : Ascends FunctionLess ms → Ascends FunctionLess fs
       → IsConeOf pair part_of (record { dim = dim; parts = h.parts; members = lifted_all h.parts ms; functions = lifted_all h.parts fs })
@@ -142,9 +163,10 @@ module _ (pair : PairState) (part_of places : List ℕ) (parts : ℕ) (ms fs : L
   pub made_small : All (λ f. AreSmall (length f.normal) fs) ms
   made_small = members_small pair m.is part_of places m.partition ms fs m.members_are m.functions_are
 
-  pub made_table : (t : List Bool) → t ≡ table_of fs ms → IsTableOf (lifted_all parts ms) (lifted_all parts fs) t
-  made_table t e = subst (λ (r : ℕ). IsTableOf (lifted_all r ms) (lifted_all r fs) t) (sym m.parts_is)
-      (table_is pair m.is part_of places m.partition ms fs m.members_are m.functions_are t e)
+  pub made_lists : (n : ℕ) → n ≡ dimension_of pair.m.vertices → (t : List Bool) → t ≡ table_of fs ms → IsKeptCone n parts ms fs t
+  made_lists n e t is = subst (λ (k : ℕ). IsKeptCone k parts ms fs t) (sym e)
+      (subst (λ (r : ℕ). IsKeptCone (dimension_of pair.m.vertices) r ms fs t) (sym m.parts_is)
+      (lists_are pair m.is part_of places m.partition ms fs m.members_are m.functions_are t is))
 
   pub made_cone : (n : ℕ) → n ≡ dimension_of pair.m.vertices → Ascends FunctionLess ms → Ascends FunctionLess fs
       → IsConeOf pair part_of (record { dim = n; parts = parts; members = lifted_all parts ms; functions = lifted_all parts fs })

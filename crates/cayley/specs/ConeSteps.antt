@@ -7,7 +7,7 @@ use Rattle.lattice_theory.specs.Affine.{Affine}
 use Rattle.lattice_theory.specs.Size.{absolute_sum}
 use Rattle.face_theory.specs.Pairings.{paired}
 use Rattle.cayley_theory.specs.Cones.{zero_vector}
-pub use Rattle.cayley_theory.specs.Bases.{lifted_one, lifted_all}
+pub use Rattle.cayley_theory.specs.Bases.{lifted_one, lifted_all, HaveParts}
 
 -- the vector x of the part i, kept as a function
 abbrev pub with_part : List ℤ → ℕ → Affine
@@ -58,3 +58,9 @@ pub record IsTableOf (members functions : List (List ℤ)) (table : List Bool) :
   pub count : length table ≡ length members * length functions
   pub entries : (m f : ℕ) → m < length members → f < length functions
       → slice_index_or table (m * length functions + f) false ≡ (paired members functions).tight m f
+
+-- what a cone keeps: its vectors are of its dimension and of its parts, and the table tells which of them pair to 0
+pub record IsKeptCone (n r : ℕ) (members functions : List Affine) (tight : List Bool) : Type 0 where
+  pub member_parts : HaveParts n r members
+  pub function_parts : HaveParts n r functions
+  pub table : IsTableOf (lifted_all r members) (lifted_all r functions) tight

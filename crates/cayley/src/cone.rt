@@ -2,6 +2,7 @@
 ghost use Rattle.std.specs.Prelude.{◌≡◌, ◌≤◌, length, IfOk};
 ghost use Rattle.face_theory.specs.Pairings.{paired};
 ghost use Rattle.incidence.specs.Incidences.{IsTold};
+ghost use Rattle.cayley_theory.specs.Bases.{HaveParts, lifted_all};
 ghost use Rattle.cayley.specs.PairCones.{IsPartition, IsConeOf};
 
 use crate::tight::tight_table;
@@ -29,7 +30,7 @@ pub struct Cone {
 impl Model for Cone {
     ghost use Rattle.std.specs.Prelude.{◌≡◌};
     ghost use Rattle.cayley.specs.PairCones.{ConeState};
-    ghost use Rattle.cayley.specs.ConeSteps.{lifted_all, IsTableOf};
+    ghost use Rattle.cayley.specs.ConeSteps.{lifted_all, IsKeptCone};
 
     ghost Value = { ConeState };
 
@@ -40,7 +41,7 @@ impl Model for Cone {
       functions = lifted_all c.parts c.functions.items;
     } };
 
-    ghost invariant = { λ c. IsTableOf (lifted_all c.parts c.members.items) (lifted_all c.parts c.functions.items) c.tight.items };
+    ghost invariant = { λ c. IsKeptCone c.dim c.parts c.members.items c.functions.items c.tight.items };
 }
 
 /// The same number in 32 bits, for one that is at most the pool's width, which is small.
@@ -69,6 +70,36 @@ impl Cone {
             functions,
             tight,
         })
+    }
+
+    /// The dimension of the polytope.
+    pub fn dim(&self) -> usize
+        ensures { result ≡ self.now.dim }
+    {
+        self.dim
+    }
+
+    /// The number of parts.
+    pub fn parts(&self) -> usize
+        ensures { result ≡ self.now.parts }
+    {
+        self.parts
+    }
+
+    /// The vectors of the rays, in order, each as a function: its normal is the point, and its constant the part's negative.
+    pub fn member_vectors(&self) -> &[Functional]
+        ensures value { lifted_all self.now.parts result.now ≡ self.now.members }
+        ensures parts { HaveParts self.now.dim self.now.parts result.now }
+    {
+        &self.members
+    }
+
+    /// The vectors of the functions, in order, each as a function in the same way.
+    pub fn function_vectors(&self) -> &[Functional]
+        ensures value { lifted_all self.now.parts result.now ≡ self.now.functions }
+        ensures parts { HaveParts self.now.dim self.now.parts result.now }
+    {
+        &self.functions
     }
 
     /// The number of rays.

@@ -15,4 +15,4 @@ returns c =
     ∙ sym (length-map c.self.inside.functions.items (lifted_one c.self.inside.parts)) ∙ ap (λ (s : ConeState). length s.functions) c.self.view_is in
     told_cone c.args.pool.now c.from_table.new.pool c.args.self.now c.narrowed-members.result c.narrowed-functions.result c.deref.result.now
     c.self.inside.tight.items c.from_table.result rays functions c.deref.ensures.value
-    (subst (λ (s : ConeState). IsTableOf s.members s.functions c.self.inside.tight.items) c.self.view_is c.self.invariant) c.from_table.ensures
+    (subst (λ (s : ConeState). IsTableOf s.members s.functions c.self.inside.tight.items) c.self.view_is c.self.invariant.table) c.from_table.ensures

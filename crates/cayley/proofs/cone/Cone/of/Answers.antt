@@ -6,7 +6,7 @@ use Rattle.lattice_core.specs.Dimensions.{dimension_of}
 use Rattle.dual_pair.specs.Polytopes.{PolytopeState}
 use Rattle.cayley.specs.ConeSteps.{AreSmall, table_of}
 use Rattle.cayley.proofs.PairFacts.{points_dimension}
-use Rattle.cayley.proofs.ConeMade.{some_parts, all_within, parts_from, made_from, made_small, made_table, made_cone}
+use Rattle.cayley.proofs.ConeMade.{some_parts, all_within, parts_from, made_from, made_small, made_lists, made_cone}
 use Rattle.cayley.proofs.cone.Cone.of.Goals as goal
 
 pub members_of-requires-clause-parts : goal.members_of-requires-clause-parts
@@ -55,12 +55,13 @@ invariant_of-result c =
     let ns = c.vertices-2.ensures.value ∙ ap (λ (p : PolytopeState). p.vertices) c.n.ensures.value in
     let r = parts_from c.args.pair.now c.args.partition.now.part_of.items c.args.partition.now.points.items c.m.ensures.pair c.requires c.len.result
     c.vertices.result.now count (c.vertices.ensures.value ∙ ap (λ (p : PolytopeState). p.vertices) c.m.ensures.value) in
-    made_table c.args.pair.now c.args.partition.now.part_of.items c.args.partition.now.points.items (c.len.result / length c.vertices.result.now)
+    made_lists c.args.pair.now c.args.partition.now.part_of.items c.args.partition.now.points.items (c.len.result / length c.vertices.result.now)
     c.in_ok-members.members.items c.in_ok-functions.functions.items
     (made_from c.args.pair.now c.args.partition.now.part_of.items c.args.partition.now.points.items c.m.ensures.pair c.requires
     (c.len.result / length c.vertices.result.now) c.points.result.now c.vertices-2.result.now c.deref-2.result.now c.deref.result.now
     c.in_ok-members.members.items c.in_ok-functions.functions.items r ps ns c.deref-2.ensures.value c.deref.ensures.value
     c.in_ok-members.ensures.members c.in_ok-functions.ensures.functions)
+    c.dim.result (c.dim.ensures.value ∙ ap (λ (p : PolytopeState). dimension_of p.vertices) c.m-3.ensures.value)
     c.in_ok-tight.tight.items
     (c.in_ok-tight.ensures ∙ ap (λ (fs : List Affine). table_of fs c.deref-3.result.now) c.deref-4.ensures.value
     ∙ ap (table_of c.in_ok-functions.functions.items) c.deref-3.ensures.value)
