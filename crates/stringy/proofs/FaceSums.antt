@@ -9,7 +9,7 @@ use Rattle.dual_pair.specs.declared.side.Side.TheVariants as sides
 use Rattle.polynomial_theory.specs.Sums.{sum_over, sign}
 use Rattle.polynomial_theory.specs.Series.{Series, HasDegreeAtMost, HasNoPowerBelow, HasNoPowerAbove, times_at_product}
 use Rattle.polynomial_theory.specs.Series.{monomial, power_of_minus_u}
-use Rattle.polynomial_theory.proofs.Times.{times_same, times_same_left}
+use Rattle.polynomial_theory.proofs.Times.{times_same, times_same_left, times_none, times_none_left}
 use Rattle.stringy_theory.specs.Stringy.{numerator}
 use Rattle.stringy_theory.proofs.Numerator.{numerator_by_faces_lem}
 use Rattle.stringy_theory.proofs.SmallNumbers.{coefficient_bound}
@@ -58,6 +58,28 @@ module _ (table : TableState) (all : HasAllFaces table) (ranks : HasSmallRanks t
       terms_fit_lem c r (rank_at table f) (8 - rank_at table f) A B
       (λ k j. e k ∙ tilde_degree table all ranks sides.M h m f l k j) (λ k j. d k ∙ tilde_degree table all ranks sides.N h_dual n f l k j)
       (omega arith) (omega arith) (omega arith)
+
+-- a face adds nothing where S~ is 0 on side M, or on side N
+pub nothing_on_m : (table : TableState) (h h_dual : ℕ → Series) (f : ℕ) (A : Series) → ((k : ℕ) → A k ≡ tilde_of table sides.M h f k)
+    → ((k : ℕ) → A k ≡ pos 0) → (p : ℤ) (q : ℕ) → face_term table h h_dual p q f ≡ pos 0
+nothing_on_m table h h_dual f A e z p q =
+    let rest = times_at_product (tilde_of table sides.N h_dual f) (power_of_minus_u (rank_at table f)) in
+    times_same_left (negsuc 0) (tilde_of table sides.M h f) (λ k. pos 0) rest (λ k. sym (e k) ∙ z k) p q ∙ times_none_left (negsuc 0) rest p q
+
+pub nothing_on_n : (table : TableState) (h h_dual : ℕ → Series) (f : ℕ) (B : Series) → ((k : ℕ) → B k ≡ tilde_of table sides.N h_dual f k)
+    → ((k : ℕ) → B k ≡ pos 0) → (p : ℤ) (q : ℕ) → face_term table h h_dual p q f ≡ pos 0
+nothing_on_n table h h_dual f B d z p q =
+    let unit = power_of_minus_u (rank_at table f) in
+    times_same (negsuc 0) (tilde_of table sides.M h f) (times_at_product (tilde_of table sides.N h_dual f) unit) (λ p q. pos 0)
+    (λ p q. times_same_left (pos 1) (tilde_of table sides.N h_dual f) (λ k. pos 0) unit (λ k. sym (d k) ∙ z k) p q ∙ times_none_left (pos 1) unit p q) p q
+    ∙ times_none (negsuc 0) (tilde_of table sides.M h f) p q
+
+-- nothing is small, and adds nothing
+pub nothing_small : (t : ℤ) → t ≡ pos 0 → nat_abs t ≤ 2 ^ 108
+nothing_small t e = rw e (omega arith)
+
+pub nothing_more : (s t : ℤ) → t ≡ pos 0 → s ≡ s +ℤ t
+nothing_more s t e = omega (arith, ints, e)
 
 -- all faces together are the numerator
 pub faces_are_numerator : (table : TableState) → HasAllFaces table → HasSmallRanks table → (h h_dual : ℕ → Series) (p : ℤ) (q : ℕ)

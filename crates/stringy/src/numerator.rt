@@ -1,5 +1,5 @@
 //! The numerator of the stringy numbers, face by face.
-ghost use Rattle.std.specs.Prelude.{◌≡◌, ℕ, ◌^◌, ◌<◌, ◌≤◌, ℤ, pos, ◌+ℤ◌, nat_abs, length};
+ghost use Rattle.std.specs.Prelude.{◌≡◌, ◌↔◌, ℕ, ◌^◌, ◌<◌, ◌≤◌, ℤ, pos, ◌+ℤ◌, nat_abs, length, IsTrue};
 ghost use Rattle.lattice_theory.specs.Vector.{entry};
 ghost use Rattle.small_poly.specs.Tables.{laurent_of};
 ghost use Rattle.stringy_theory.specs.Stringy.{numerator};
@@ -29,7 +29,19 @@ pub(crate) fn tilde(table: &FaceTable, g: &GTable, rows: &[i32], side: Side, fac
     polynomial_of(&tilde_row(table, g, rows, side, face))
 }
 
-/// Adds what a face adds to the numerator.
+/// Whether all numbers of a row are 0.
+fn is_nothing(row: &[i64]) -> bool
+    ensures { IsTrue result ↔ ((k : ℕ) → entry row.now k ≡ pos 0) }
+{
+    for k in 0..row.len() {
+        if row[k] != 0 {
+            return false;
+        }
+    }
+    true
+}
+
+/// Adds what a face adds to the numerator: nothing where S~ is 0 on either side.
 fn add_face_term(
     sum: &mut Poly2,
     table: &FaceTable,
@@ -49,9 +61,16 @@ fn add_face_term(
     ensures value { (p : ℤ) (q : ℕ) → laurent_of sum.new p q ≡ laurent_of sum.old p q +ℤ face_term table.now (row_at inner.now) (row_at outer.now) p q face }
     ensures small { (p q : ℕ) → nat_abs (face_term table.now (row_at inner.now) (row_at outer.now) (pos p) q face) ≤ 2 ^ 108 }
 {
+    let left = tilde_row(table, g, inner, Side::M, face);
+    if is_nothing(&left) {
+        return;
+    }
+    let right = tilde_row(table, g, outer, Side::N, face);
+    if is_nothing(&right) {
+        return;
+    }
     let rank = table.rank(face) as usize;
-    let left = tilde(table, g, inner, Side::M, face);
-    let right = tilde(table, g, outer, Side::N, face);
+    let (left, right) = (polynomial_of(&left), polynomial_of(&right));
     sum.add_term(rank % 2 == 1, rank, &left, &right);
 }
 
