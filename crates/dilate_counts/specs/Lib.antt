@@ -1,0 +1,2 @@
+pub mod DilateCounts
+pub mod Counters

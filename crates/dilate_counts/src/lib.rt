@@ -1,0 +1,17 @@
+//! How many lattice points of a dilate have a base of a degree, for each of many sets of vectors on which the base is 0.
+//!
+//! It stands on `point_scan`, which visits the points of a dilate, and on `base_counts`, which counts one point.
+//!
+//! Its central theorem: the counts are, for each set and degree, exactly the number of the dilate's lattice points whose base has the degree and pairs
+//! to 0 with the vectors of the set (`count_dilate`).
+#![tactic(auto)]
+
+mod counter;
+mod dilate;
+mod limits;
+
+pub use dilate::count_dilate;
+pub use limits::MOST_COUNTED;
+
+#[cfg(test)]
+mod tests;
