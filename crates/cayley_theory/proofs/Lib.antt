@@ -8,3 +8,4 @@ pub mod BasePoints
 pub mod EachBase
 pub mod Summed
 pub mod PairSums
+mod BaseExample

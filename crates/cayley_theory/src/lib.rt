@@ -9,4 +9,4 @@
 pub mod cones;
 mod examples;
 
-pub use examples::segment_cone_is_an_example;
+pub use examples::{segment_bases_are_an_example, segment_cone_is_an_example};
