@@ -1,17 +1,16 @@
 -- An item has one polytope, one pair, or one refusal.
-use Rattle.std.proofs.Common.{◌≡◌, List, ℤ, sym, ap, subst, inl, inr}
+use Rattle.std.proofs.Common.{◌≡◌, List, ℤ, ap, subst, inl, inr}
 use Rattle.lattice_core.specs.declared.faults.Refusal.{Refusal}
 use Rattle.lattice_core.specs.declared.faults.Refusal.TheVariants.{Flat, Limit}
 use Rattle.palp_input.specs.Grammar.{Listed}
 use Rattle.item_points.proofs.SingleItems.{one_list_of_points, one_points_refusal, points_or_refusal, points_are_item_points}
 use Rattle.dual_pair.specs.Polytopes.{PolytopeState, IsPolytopeOf, HasNoPolytope}
 use Rattle.dual_pair.specs.Pairs.{PairState, IsReflexivePolytope, HasNoDual}
-use Rattle.dual_pair.specs.declared.pair.Kind.{Kind}
 use Rattle.dual_pair.specs.declared.pair.Kind.TheVariants as kinds
 use Rattle.dual_pair.proofs.VertexLists.{polytopes_are_single_lem}
 use Rattle.dual_pair.proofs.PairLaws.{pairs_are_single_lem}
 use Rattle.dual_pair.proofs.SingleRefusals.{one_polytope_refusal_lem, polytope_or_refusal_lem, one_dual_refusal_lem, dual_or_refusal_lem}
-use Rattle.item_polytopes.specs.Kinds.{HasPolytope, HasBarePoints, IsPolytopeRefusal, IsOther, HasPair, HasLargeDual, IsKind, IsKindRefusal}
+use Rattle.item_polytopes.specs.Kinds.{HasPolytope, HasBarePoints, IsPolytopeRefusal, IsOther, HasPair, HasLargeDual, IsKindRefusal}
 use Rattle.item_polytopes.specs.Laws.{OnePolytope, OnePolytopeRefusal, PolytopeOrRefusal, OneKind, OneKindRefusal, KindOrRefusal}
 
 -- a refusal of the dual tells a reflexive polytope

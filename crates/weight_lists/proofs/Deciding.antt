@@ -6,7 +6,8 @@ use Rattle.lattice_theory.specs.Vector.{entry, dot, EndsAt, HaveDimension, IsPri
 use Rattle.lattice_theory.specs.Affine.{Affine, value}
 use Rattle.lattice_theory.specs.Facet.{IsFlat, AreFacets}
 use Rattle.lattice_theory.proofs.Integers.{linear}
-use Rattle.lattice_theory.proofs.Members.{In, here, Each, empty, more, each_head, each_tail, each_in, each_from_in, each_from_all, all_from_each, in_from_contains, contains_from_in}
+use Rattle.lattice_theory.proofs.Members.{In, here, Each, empty, more, each_head, each_tail, each_in, each_from_in, each_from_all, all_from_each, in_from_contains}
+use Rattle.lattice_theory.proofs.Members.{contains_from_in}
 use Rattle.lattice_theory.proofs.Sublists.{in_map, from_map, IsImage}
 use Rattle.lattice_theory.proofs.Divisibility.{HasGcd, gcd_exists, primitive_from_combination}
 use Rattle.lattice_theory.proofs.Vectors.{unit, length-unit, entry-unit_same, zero_from_entries}

@@ -9,7 +9,8 @@ use Rattle.palp_io.specs.Faults.{Rose}
 use Rattle.palp_io.proofs.FaultLemmas.{Rose-late}
 use Rattle.report_theory.specs.Report.{Whole, Ends, Step, stop_at}
 use Rattle.report_theory.specs.Giving.{GivesItem, GivesReport, GivesFront}
-use Rattle.report_theory.proofs.Givings.{ReportedSoFar, reported_nothing, reported_item, reported_end, reported_part, reported_front, reported_all, item_nothing, item_piece, item_closed, item_part}
+use Rattle.report_theory.proofs.Givings.{ReportedSoFar, reported_nothing, reported_item, reported_end, reported_part, reported_front, reported_all, item_nothing}
+use Rattle.report_theory.proofs.Givings.{item_piece, item_closed, item_part}
 use Rattle.interior_point_theory.specs.Interior.{IsInteriorPointSystem, AreSystemsOfRange}
 use Rattle.weight_enum.specs.Searched.{Searched, GivesSystem, IsSystemAt, HasSystems, AreFirstSystems}
 use Rattle.weight_enum.proofs.FirstSystems.{no_systems_are_first_lem, first_and_next_lem, first_are_all_lem}

@@ -45,7 +45,7 @@ small_numbers system x (inr o) =
     let none = ap (λ (y : SystemNumbers). y.reflexive) o.numbers_are in
     let points = ap (λ (y : SystemNumbers). y.points) o.numbers_are in
     let duals = ap (λ (y : SystemNumbers). y.dual_points) o.numbers_are in
-    let few = o.has_polytope.is_polytope.few_points in
+    let few = o.is_other.has_polytope.is_polytope.few_points in
     record { reflexive = omega (arith, none); points = omega (arith, points, few); dual_points = omega (arith, duals) }
 
 -- so are their sums

@@ -7,7 +7,8 @@ use Rattle.report_theory.specs.Report.{Whole, Ends, Step, Piece, Close}
 use Rattle.palp_print.specs.Lists.{weights_line, closing}
 use Rattle.palp_print.specs.declared.titles.CountTitle.{CountTitle}
 use Rattle.palp_print.specs.declared.titles.CountTitle.TheVariants.{Ip, Ref}
-use Rattle.weight_lists.specs.Systems.{IsReflexiveSystem, IsOtherSystem, HasNoPolytope}
+use Rattle.item_polytopes.specs.Kinds.{IsPolytopeRefusal}
+use Rattle.weight_lists.specs.Systems.{line_of, IsReflexiveSystem, IsOtherSystem}
 use Rattle.weight_lists.specs.Entries.{ListEntry, ListSays}
 
 -- the system is listed: every system is, and with `only` those whose polytope is reflexive
@@ -20,10 +21,11 @@ abbrev pub IsLeftOut : Bool → Weighted → Type 0
 IsLeftOut false system = ⊥
 IsLeftOut true system = IsOtherSystem system
 
--- it is refused
+-- it is refused: it has no polytope within the limits. The limit on lattice points doesn't come: they are the points of the exponent vectors, of
+-- which there are few.
 abbrev pub IsRefused : Bool → Weighted → Refusal → Type 0
 IsRefused false system cause = ⊥
-IsRefused true system cause = HasNoPolytope system cause
+IsRefused true system cause = IsPolytopeRefusal (line_of system) cause
 
 -- a system that is listed has its line
 pub data LineSays (only : Bool) (system : Weighted) : ℕ → Step Refusal → Type 0 where

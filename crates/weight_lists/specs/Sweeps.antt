@@ -6,8 +6,9 @@ use Rattle.lattice_core.specs.declared.faults.Refusal.{Refusal}
 use Rattle.report_theory.specs.Report.{Whole, Ends, Step, Close}
 use Rattle.palp_print.specs.Lists.{sweep_line}
 use Rattle.dual_pair.specs.Polytopes.{PolytopeState}
-use Rattle.dual_pair.specs.Pairs.{PairState, IsReflexivePolytope}
-use Rattle.weight_lists.specs.Systems.{HasPolytope, HasNoPolytope, HasPair, HasLargeDual}
+use Rattle.dual_pair.specs.Pairs.{PairState}
+use Rattle.item_polytopes.specs.Kinds.{HasPair, IsOther, IsKindRefusal}
+use Rattle.weight_lists.specs.Systems.{line_of}
 use Rattle.weight_lists.specs.Entries.{ListEntry, ListSays}
 
 -- what is summed: 1 for a reflexive polytope; its lattice points; and those of its dual
@@ -19,14 +20,13 @@ pub record SystemNumbers : Type 0 where
 -- the numbers of a system whose polytope is reflexive
 pub record IsReflexiveNumbers (system : Weighted) (numbers : SystemNumbers) : Type 0 where
   pub pair : PairState
-  pub has_pair : HasPair system pair
+  pub has_pair : HasPair (line_of system) pair
   pub numbers_are : numbers ≡ record { reflexive = 1; points = length pair.m.points; dual_points = length pair.n.points }
 
 -- the numbers of a system whose polytope isn't
 pub record IsOtherNumbers (system : Weighted) (numbers : SystemNumbers) : Type 0 where
   pub polytope : PolytopeState
-  pub has_polytope : HasPolytope system polytope
-  pub other : IsReflexivePolytope polytope → ⊥
+  pub is_other : IsOther (line_of system) polytope
   pub numbers_are : numbers ≡ record { reflexive = 0; points = length polytope.points; dual_points = 0 }
 
 -- the numbers of a system that isn't refused
@@ -35,7 +35,7 @@ AreNumbers system numbers = IsReflexiveNumbers system numbers ⊎ IsOtherNumbers
 
 -- why a system is refused: it has no polytope within the limits, or that polytope is reflexive and its dual exceeds a limit
 abbrev pub IsSweepRefused : Weighted → Refusal → Type 0
-IsSweepRefused system cause = HasNoPolytope system cause ⊎ HasLargeDual system cause
+IsSweepRefused system cause = IsKindRefusal (line_of system) cause
 
 -- a system prints nothing
 pub data SilentSays (system : Weighted) : ℕ → Step Refusal → Type 0 where

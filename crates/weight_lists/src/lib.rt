@@ -1,5 +1,5 @@
 //! The reports of ranges of weight systems: the list of interior-point systems, or of those whose polytope is reflexive, and the summary of
-//! their polytopes. It stands on `weight_enum` for the systems, on `item_points` and `dual_pair` for their polytopes, on `report_theory` for
+//! their polytopes. It stands on `weight_enum` for the systems, on `item_polytopes` and `dual_pair` for their polytopes, on `report_theory` for
 //! what a report is, on `palp_print` for lines and on `palp_io` for sinks.
 //!
 //! Its central theorem: what is given to the sink is exactly the report of the whole list of the range, up to the first system that is refused,

@@ -84,7 +84,8 @@ fn close<O: Sink>(page: &mut Page, only: bool, count: u64, out: &mut O) -> Resul
 }
 
 /// Gives the report of `cws` to `out`: one line for each interior-point weight system of the range, by degree and then by weights, or with
-/// `reflexive_only` for each of those whose polytope is reflexive; and then the line that tells their number. Each line is one give.
+/// `reflexive_only` for each of those whose polytope is reflexive; and then the line that tells their number. Each line is one give. The systems
+/// have `dim` + 1 weights, 2 to 6, and a degree from `low`, at least 1, to `high`, at most 4,095, and at most 250 for 6 weights.
 ///
 /// `Refused` comes only with `reflexive_only`, with the first system whose polytope can't be told, where its weight line has no points within the
 /// limits, or these are flat or have too many facets or vertices; the lines before it were given. `Write` comes only where the count of

@@ -11,8 +11,8 @@ ghost use Rattle.weight_lists.specs.Steps.{LineMeans, HasNumbers};
 use crate::ListFault;
 use crate::listing::stopped;
 use crate::printing::give;
-use crate::systems::polytope_of;
-use dual_pair::{DualPair, Kind};
+use crate::systems::kind_of;
+use dual_pair::Kind;
 use lattice_core::{Fault, WeightSystem};
 use palp_io::Sink;
 use palp_print::Page;
@@ -36,8 +36,7 @@ fn numbers_of(alloc: Global, system: &WeightSystem) -> Result<Numbers, Fault>
     requires { IsInteriorPointSystem (weighted system.now) }
     ensures { MatchResult result (HasNumbers (weighted system.now)) (Stops (IsSweepRefused (weighted system.now))) }
 {
-    let polytope = polytope_of(alloc, system)?;
-    match DualPair::of(alloc, polytope)? {
+    match kind_of(alloc, system)? {
         Kind::Reflexive(pair) => Ok(Numbers {
             reflexive: 1,
             points: pair.m().points().len() as u64,
@@ -68,7 +67,8 @@ fn close<O: Sink>(
 }
 
 /// Gives the report of `sweep` to `out`, one line: the number of interior-point weight systems of the range, how many of them have a reflexive
-/// polytope, the sum of the numbers of lattice points of all their polytopes, and that of the duals of the reflexive ones.
+/// polytope, the sum of the numbers of lattice points of all their polytopes, and that of the duals of the reflexive ones. The systems have
+/// `dim` + 1 weights, 2 to 6, and a degree from `low`, at least 1, to `high`, at most 4,095, and at most 250 for 6 weights.
 ///
 /// `Refused` comes with the first system whose weight line has no points within the limits, or whose points are flat or have too many facets or
 /// vertices, or whose dual's vertices are too large or its lattice points too many. `Write` comes only where the count of faults of `out`
