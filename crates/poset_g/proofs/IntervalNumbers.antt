@@ -62,7 +62,7 @@ module _ (table : TableState) (s : PlacesState) (places : ArePlaces (numbered ta
       places.apart x y z w p i.to j.to (inl i.from) (inl j.from) (sym (find_is x y i.from i.to) ∙ e) (sym (find_is z w j.from j.to) ∙ f)
 
   -- the test of the code
-  test_is : (x y : ℕ) → x < length table.faces → y < length table.faces → nat_lt 0 (find_at s x y) ≡ (numbered table).below x y
+  pub test_is : (x y : ℕ) → x < length table.faces → y < length table.faces → nat_lt 0 (find_at s x y) ≡ (numbered table).below x y
   test_is x y l m = by (cases_Bool ((numbered table).below x y))
     where
       by : ((numbered table).below x y ≡ true) ⊎ ((numbered table).below x y ≡ false) → nat_lt 0 (find_at s x y) ≡ (numbered table).below x y

@@ -8,7 +8,7 @@ use Rattle.poset_g.specs.Stored.{PlacesState, read_at, stored}
 use Rattle.poset_g.specs.Values.{coefficient, polynomial, AreSmall, HoldsG}
 use Rattle.poset_g.specs.PlaceSteps.{ArePlaces}
 use Rattle.poset_g.specs.FillSteps.{AreFilled}
-use Rattle.poset_g.proofs.IntervalNumbers.{found_at}
+use Rattle.poset_g.proofs.IntervalNumbers.{found_at, test_is}
 use Rattle.poset_g.proofs.FilledPlaces.{none_higher}
 use Rattle.poset_g.proofs.FilledRows.{all_filled}
 
@@ -34,4 +34,4 @@ module _ (table : TableState) (h : HasAllFaces table) (small : HasSmallRanks tab
       by (inr l) = let z = ap nat_abs (none_higher table h small p i l) in omega arith
 
   pub made : HoldsG table (record { places = s; values = values }) × AreSmall table
-  made = (record { g = λ x y i k. held false x y i k; g_dual = λ x y i k. held true x y i k }, small_at)
+  made = (record { told = test_is table s places; g = λ x y i k. held false x y i k; g_dual = λ x y i k. held true x y i k }, small_at)

@@ -1,5 +1,5 @@
 -- What contracts see of a table of the polynomials G and G', and which polynomials it has. This project's own.
-use Rattle.std.specs.Prelude.{ℕ, zero, suc, ◌+◌, ◌*◌, nat_lt, ◌&&◌, cond, List, ℤ, pos, slice_index_or}
+use Rattle.std.specs.Prelude.{ℕ, zero, suc, ◌+◌, ◌*◌, nat_lt, ◌&&◌, Bool, cond, List, ℤ, pos, slice_index_or}
 use Rattle.lattice_theory.specs.Vector.{entry}
 use Rattle.polynomial_theory.specs.Series.{Series}
 
@@ -28,6 +28,10 @@ stored s values first x y = read_at values first (find_at s x y)
 pub record GState : Type 0 where
   pub places : PlacesState
   pub values : List ℤ
+
+-- whether it has polynomials for x and y
+abbrev pub has_interval : GState → ℕ → ℕ → Bool
+has_interval s x y = nat_lt 0 (find_at s.places x y)
 
 -- G[x,y] and G'[x,y] in it
 abbrev pub g_of : GState → ℕ → ℕ → Series

@@ -1,16 +1,17 @@
 -- When a table of the polynomials G and G' has those of a table of faces, and which coefficient is too large. This project's own.
-use Rattle.std.specs.Prelude.{◌≡◌, ◌⊎◌, ℕ, ◌<◌, ◌≤◌, Bool, true, false, Result, Ok, Err, ℤ, nat_abs, ⊤}
+use Rattle.std.specs.Prelude.{◌≡◌, ◌⊎◌, ℕ, ◌<◌, ◌≤◌, Bool, true, false, Result, Ok, Err, length, ℤ, nat_abs, ⊤}
 use Rattle.face_poset.specs.Faces.{TableState}
 use Rattle.polynomial_theory.specs.Series.{Series}
 use Rattle.stringy_theory.specs.Eulerian.{g, g_dual}
-use Rattle.poset_g.specs.Stored.{GState, g_of, g_dual_of}
+use Rattle.poset_g.specs.Stored.{GState, has_interval, g_of, g_dual_of}
 use Rattle.poset_g.specs.Numbered.{numbered, IsInterval}
 use Rattle.poset_g.specs.declared.faults.GFault.{GFault}
 use Rattle.poset_g.specs.declared.faults.GFault.TheVariants as faults
 use Rattle.poset_g.specs.declared.faults.TheConstants.{MOST_COEFFICIENT}
 
--- it has G and G' of the intervals of the table's faces
+-- it tells the intervals of the table's faces, and has their G and G'
 pub record HoldsG (table : TableState) (values : GState) : Type 0 where
+  pub told : (x y : ℕ) → x < length table.faces → y < length table.faces → has_interval values x y ≡ (numbered table).below x y
   pub g : (x y : ℕ) → IsInterval table x y → (k : ℕ) → g_of values x y k ≡ g (numbered table) x y k
   pub g_dual : (x y : ℕ) → IsInterval table x y → (k : ℕ) → g_dual_of values x y k ≡ g_dual (numbered table) x y k
 

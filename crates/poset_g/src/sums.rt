@@ -138,7 +138,7 @@ fn is_inside(places: &Places, from: u32, to: u32, face: u32) -> bool
 }
 
 /// Whether there is an interval.
-fn has(places: &Places, x: u32, y: u32) -> bool
+pub(crate) fn has(places: &Places, x: u32, y: u32) -> bool
     ensures { result ≡ nat_lt 0 (find_at places.now x y) }
 {
     match places.find(x, y) {

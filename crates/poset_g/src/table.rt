@@ -9,13 +9,14 @@ ghost use Rattle.stringy_theory.specs.CountedFaces.{series_of};
 ghost use Rattle.stringy_theory.specs.Stringy.{b};
 ghost use Rattle.poset_g.specs.Numbered.{counted, IsInterval, HasAllFaces, HasSmallRanks};
 ghost use Rattle.poset_g.specs.declared.faults.TheConstants.{MOST_COEFFICIENT};
-ghost use Rattle.poset_g.specs.Stored.{g_of, g_dual_of};
+ghost use Rattle.poset_g.specs.Stored.{has_interval, g_of, g_dual_of};
 ghost use Rattle.poset_g.specs.Values.{HoldsG, IsMade};
 ghost use Rattle.poset_g.specs.TermSteps.{kept_term_at};
 
 use crate::faults::GFault;
 use crate::fill::fill;
 use crate::places::Places;
+use crate::sums::has;
 use face_poset::FaceTable;
 use small_poly::{Poly1, Poly2};
 use std::alloc::Global;
@@ -77,6 +78,14 @@ impl GTable {
         let mut values = zeros(alloc, 8 * places.len())?;
         fill(alloc, table, &places, &mut values)?;
         Ok(GTable { places, values })
+    }
+
+    /// Whether it has G and G' of the interval from x to y: for two faces of its table, whether x is y or below it.
+    #[inline]
+    pub fn has(&self, x: u32, y: u32) -> bool
+        ensures { result ≡ has_interval self.now x y }
+    {
+        has(&self.places, x, y)
     }
 
     /// G of the interval from x to y, whose coefficients are at most 4,096 in size; 0 where x isn't y or below it.
