@@ -24,11 +24,12 @@ use Rattle.stringy_theory.proofs.RisingRanks.{ranks_suffice_lem}
 use Rattle.stringy_theory.proofs.SmallNumbers.{product_bound}
 use Rattle.small_poly.specs.Tables.{unit_of}
 use Rattle.poset_g.specs.Numbered.{counted, numbered, IsInterval, HasAllFaces, HasSmallRanks}
-use Rattle.poset_g.specs.Values.{AreSmall}
+use Rattle.poset_g.specs.Stored.{GState, has_interval}
+use Rattle.poset_g.specs.Values.{HoldsG, AreSmall}
 use Rattle.poset_g.proofs.Ranges.{contains_number}
-use Rattle.poset_g.proofs.NumberedFaces.{ranks_rise_lem}
+use Rattle.poset_g.proofs.NumberedFaces.{not_behind, ranks_rise_lem}
 use Rattle.stringy.proofs.Signs.{signed_bound}
-use Rattle.stringy.specs.RowSteps.{row_at, rank_at, tilde_of, low_of, high_of, interval_of, signed_term, term_of, degree_of}
+use Rattle.stringy.specs.RowSteps.{row_at, rank_at, tilde_of, low_of, high_of, first_of, end_of, interval_of, signed_term, term_of, degree_of}
 
 -- the same factors
 pub product_same : (A B C D : Series) → ((k : ℕ) → A k ≡ C k) → ((k : ℕ) → B k ≡ D k) → (k : ℕ) → product A B k ≡ product C D k
@@ -133,17 +134,53 @@ module _ (table : TableState) (all : HasAllFaces table) (ranks : HasSmallRanks t
       ∙ sum_zero (range_with_len 0 (length table.faces)) (λ x. pos 0) (λ x. refl)
 
   -- the ends of an interval, as they are found
+  lower_within : (side : Side) (f x lo : ℕ) → lo ≡ low_of side f x → f < length table.faces → x < length table.faces → lo < length table.faces
+  lower_within sides.M f x lo e l m = rw e m
+  lower_within sides.N f x lo e l m = rw e l
+
+  upper_within : (side : Side) (f x hi : ℕ) → hi ≡ high_of side f x → f < length table.faces → x < length table.faces → hi < length table.faces
+  upper_within sides.M f x hi e l m = rw e l
+  upper_within sides.N f x hi e l m = rw e m
+
   pub found_interval : (side : Side) (f x lo hi : ℕ) → lo ≡ low_of side f x → hi ≡ high_of side f x → f < length table.faces → x < length table.faces
       → (numbered table).below lo hi ≡ true → IsInterval table lo hi
-  found_interval side f x lo hi e g l m b = record { from = rw e (low side l m); to = rw g (high side l m); below = b }
-    where
-      low : (s : Side) → f < length table.faces → x < length table.faces → low_of s f x < length table.faces
-      low sides.M l m = m
-      low sides.N l m = l
+  found_interval side f x lo hi e g l m b = record { from = lower_within side f x lo e l m; to = upper_within side f x hi g l m; below = b }
 
-      high : (s : Side) → f < length table.faces → x < length table.faces → high_of s f x < length table.faces
-      high sides.M l m = l
-      high sides.N l m = m
+  -- a table of G and G' tells them
+  pub told_interval : (s : GState) → HoldsG table s → (side : Side) (f x lo hi : ℕ) → lo ≡ low_of side f x → hi ≡ high_of side f x → f < length table.faces
+      → x < length table.faces → (b : Bool) → has_interval s lo hi ≡ b → (numbered table).below lo hi ≡ b
+  told_interval s holds side f x lo hi e g l m b h = sym (holds.told lo hi (lower_within side f x lo e l m) (upper_within side f x hi g l m)) ∙ h
+
+  -- a face that isn't on the side adds nothing
+  pub term_none : (side : Side) (h : ℕ → Series) (f x lo hi : ℕ) → lo ≡ low_of side f x → hi ≡ high_of side f x → (numbered table).below lo hi ≡ false → (k : ℕ)
+      → term_of table side h f k x ≡ pos 0
+  term_none side h f x lo hi e g b k = cond-false ((numbered table).below (low_of side f x) (high_of side f x)) (signed_term table side h f x k) (pos 0)
+      (sym (ap (λ (a : ℕ). (numbered table).below a hi) e ∙ ap (λ (a : ℕ). (numbered table).below (low_of side f x) a) g) ∙ b)
+
+  -- so do those whose numbers are outside
+  not_below : (x y : ℕ) → x < length table.faces → y < length table.faces → y < x → (numbered table).below x y ≡ false
+  not_below x y l m n = by (cases_Bool ((numbered table).below x y))
+    where
+      by : ((numbered table).below x y ≡ true) ⊎ ((numbered table).below x y ≡ false) → (numbered table).below x y ≡ false
+      by (inl t) = let a = not_behind all.0 table all.1 x y l m t in absurd (omega arith)
+      by (inr f) = f
+
+  pub end_within : (side : Side) (f : ℕ) → f < length table.faces → end_of side f (length table.faces) ≤ length table.faces
+  end_within sides.M f l = omega arith
+  end_within sides.N f l = omega arith
+
+  pub first_within : (side : Side) (f : ℕ) → f < length table.faces → first_of side f ≤ length table.faces
+  first_within sides.M f l = omega arith
+  first_within sides.N f l = omega arith
+
+  pub none_before : (side : Side) (h : ℕ → Series) (f k : ℕ) → f < length table.faces → (x : ℕ) → x < first_of side f → term_of table side h f k x ≡ pos 0
+  none_before sides.M h f k l x m = absurd (omega arith)
+  none_before sides.N h f k l x m = term_none sides.N h f x f x refl refl (not_below f x l (omega arith) m) k
+
+  pub none_behind : (side : Side) (h : ℕ → Series) (f k : ℕ) → f < length table.faces → (x : ℕ) → end_of side f (length table.faces) ≤ x → x < length table.faces
+      → term_of table side h f k x ≡ pos 0
+  none_behind sides.M h f k l x m n = term_none sides.M h f x x f refl refl (not_below x f n l (omega arith)) k
+  none_behind sides.N h f k l x m n = absurd (omega arith)
 
   -- what is added is the term
   pub term_added : (side : Side) (h : ℕ → Series) (f x lo hi : ℕ) (row interval : Series) (negative : Bool) → lo ≡ low_of side f x → hi ≡ high_of side f x

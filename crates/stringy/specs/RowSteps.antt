@@ -46,6 +46,15 @@ abbrev pub high_of : Side → ℕ → ℕ → ℕ
 high_of sides.M f x = f
 high_of sides.N f x = x
 
+-- the numbers of the faces that may be on its side: faces below it don't stand behind it
+abbrev pub first_of : Side → ℕ → ℕ
+first_of sides.M f = 0
+first_of sides.N f = f
+
+abbrev pub end_of : Side → ℕ → ℕ → ℕ
+end_of sides.M f n = f + 1
+end_of sides.N f n = n
+
 -- the polynomial of the interval
 abbrev pub interval_of : TableState → Side → ℕ → ℕ → Series
 interval_of table sides.M x y = g (numbered table) x y

@@ -7,26 +7,13 @@ ghost use Rattle.small_poly.specs.Tables.{unit_of};
 ghost use Rattle.dual_pair.specs.declared.side.Side.TheVariants as Side;
 ghost use Rattle.poset_g.specs.Numbered.{numbered, HasAllFaces, HasSmallRanks};
 ghost use Rattle.poset_g.specs.Values.{HoldsG, AreSmall};
-ghost use Rattle.stringy.specs.RowSteps.{row_at, tilde_of, low_of, high_of, interval_of, term_of, AreRows};
+ghost use Rattle.stringy.specs.RowSteps.{row_at, tilde_of, low_of, high_of, first_of, end_of, interval_of, term_of, AreRows};
 
 use crate::rows::add_product;
 use dual_pair::Side;
 use face_poset::FaceTable;
 use poset_g::GTable;
 use small_poly::Poly1;
-
-/// Whether a face is another one, or below it. A face that is below another one has a smaller number.
-fn is_below(table: &FaceTable, low: u32, high: u32) -> bool
-    requires low { low < length table.now.faces }
-    requires high { high < length table.now.faces }
-    requires faces { HasAllFaces table.now }
-    ensures { result ≡ (numbered table.now).below low high }
-{
-    if low > high {
-        return false;
-    }
-    table.below(low, high)
-}
 
 /// Whether the difference of two ranks is odd.
 fn is_odd(low: u32, high: u32) -> bool
@@ -130,6 +117,27 @@ fn interval(table: &FaceTable, g: &GTable, side: Side, low: u32, high: u32) -> [
     }
 }
 
+/// The number from which faces are on a side of a face.
+fn first_on(side: Side, face: u32) -> u32
+    ensures { result ≡ first_of side face }
+{
+    match side {
+        Side::M => 0,
+        Side::N => face,
+    }
+}
+
+/// The number before which they are, of so many faces.
+fn end_on(side: Side, face: u32, count: u32) -> u32
+    requires { face < count }
+    ensures { result ≡ end_of side face count }
+{
+    match side {
+        Side::M => face + 1,
+        Side::N => count,
+    }
+}
+
 /// Adds what another face adds to the sum of a face.
 fn add_face(
     sums: &mut [i64; 9],
@@ -152,7 +160,7 @@ fn add_face(
 {
     let low = lower(side, face, other);
     let high = upper(side, face, other);
-    if is_below(table, low, high) {
+    if g.has(low, high) {
         let negative = is_odd(table.rank(low), table.rank(high));
         add_product(
             sums,
@@ -181,7 +189,7 @@ pub(crate) fn tilde_row(
     ensures small { (k : ℕ) → nat_abs (entry result k) ≤ 2 ^ 54 }
 {
     let mut sums = [0; 9];
-    for other in 0..table.len() {
+    for other in first_on(side, face)..end_on(side, face, table.len()) {
         add_face(&mut sums, table, g, rows, side, face, other);
     }
     sums
