@@ -1,0 +1,12 @@
+mod RowSums
+mod LargeNumbers
+mod SetSums
+mod WithinRows
+mod FreeParts
+mod FaceSets
+mod TableWidths
+mod SideSets
+mod FewerPairs
+mod SideCounts
+mod ConeSides
+mod KeptCounts
