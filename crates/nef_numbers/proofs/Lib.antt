@@ -1,0 +1,9 @@
+mod AlikeFaces
+mod SameFaces
+mod SameNumbers
+mod ToldNumbers
+mod LargeCoefficients
+mod SingleNumbers
+mod ConeSizes
+mod RoomFacts
+mod FoundParts
