@@ -3,7 +3,7 @@ mod SameFaces
 mod SameNumbers
 mod ToldNumbers
 mod LargeCoefficients
-mod SingleNumbers
+pub mod SingleNumbers
 mod ConeSizes
 mod RoomFacts
-mod FoundParts
+pub mod FoundParts

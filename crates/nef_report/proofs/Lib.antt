@@ -1,3 +1,6 @@
+pub mod Diamonds
+pub mod PieceSteps
+pub mod SingleParts
 pub mod SingleListings
 pub mod SingleSteps
 pub mod ItemSteps

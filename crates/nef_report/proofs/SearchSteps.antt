@@ -3,8 +3,10 @@ use Rattle.std.proofs.Common.{◌≡◌, ℕ, ◌+◌, Option, Some, None, sym, 
 use Rattle.dual_pair.specs.Pairs.{PairState}
 use Rattle.dual_pair.specs.declared.partition.Partition.{Partition}
 use Rattle.nef_parts.specs.Lists.{PairLists, lists_of}
-use Rattle.nef_parts.specs.Partitions.{Searched, IsNefAt, HasNefPartitions}
+use Rattle.nef_parts.specs.Partitions.{Searched, IsNefAt, HasNefPartitions, ArePointsOf}
 use Rattle.nef_parts.specs.Given.{GivesNext}
+use Rattle.nef_numbers.specs.Numbers.{IsPartitionInto}
+use Rattle.nef_numbers.proofs.FoundParts.{found_have_parts_lem}
 
 module _ (pair : PairState) (r k : ℕ) (old new : Searched) (lists : old.lists ≡ lists_of pair) (codim : old.codim ≡ r) (given : old.given ≡ k) where
   -- the same of the lists, the number of parts and the place that are known
@@ -27,6 +29,10 @@ module _ (pair : PairState) (r k : ℕ) (old new : Searched) (lists : old.lists 
 
     pub given_at : IsNefAt (lists_of pair) r k p.part_of.items
     given_at = at_known (λ l m n. IsNefAt l m n p.part_of.items) some.3
+
+    pub given_into : IsPartitionInto pair r p.part_of.items p.points.items
+    given_into = found_have_parts_lem pair r k p.part_of.items p.points.items given_at
+        (at_known (λ l m n. ArePointsOf l m p.part_of.items p.points.items) some.4)
 
   pub given_all : (o : Option Partition) → o ≡ None → GivesNext old new o → HasNefPartitions (lists_of pair) r k
   given_all o is gives = at_known HasNefPartitions (subst (λ (x : Option Partition). GivesNext old new x) is gives).1

@@ -1,9 +1,8 @@
 -- An item has one polytope, one pair, or one refusal.
 use Rattle.std.proofs.Common.{◌≡◌, ℕ, List, ℤ, sym, ◌∙◌, ap, subst, inl, inr, arith}
-use Rattle.lattice_core.specs.Dimensions.{dimension_of}
 use Rattle.lattice_core.specs.declared.faults.Refusal.{Refusal}
 use Rattle.lattice_core.specs.declared.faults.Refusal.TheVariants.{Flat, Limit}
-use Rattle.lattice_core.specs.declared.faults.LimitName.TheVariants.{Codim, Rank}
+use Rattle.palp_words.specs.declared.job.NefWords.{NefWords}
 use Rattle.palp_input.specs.Grammar.{Listed}
 use Rattle.item_points.proofs.SingleItems.{one_list_of_points, one_points_refusal, points_or_refusal, points_are_item_points}
 use Rattle.dual_pair.specs.Polytopes.{PolytopeState, IsPolytopeOf, HasNoPolytope}
@@ -11,27 +10,9 @@ use Rattle.dual_pair.specs.Pairs.{PairState, IsPair, IsReflexivePolytope, HasNoD
 use Rattle.dual_pair.proofs.VertexLists.{polytopes_are_single_lem}
 use Rattle.dual_pair.proofs.PairLaws.{pairs_are_single_lem}
 use Rattle.dual_pair.proofs.SingleRefusals.{one_polytope_refusal_lem, polytope_or_refusal_lem, one_dual_refusal_lem, dual_or_refusal_lem}
-use Rattle.cayley.specs.Limits.{IsWithinRank, IsRankRefusal}
-use Rattle.nef_report.specs.Items.{HasPolytope, HasBarePoints, IsPolytopeRefusal, IsOther, HasPair, HasLargeDual, IsKindRefusal, IsListed, HasManyParts, IsItemRefusal}
-
--- the limits on the number of parts
-one_rank_refusal : (n r : ℕ) (cause other : Refusal) → IsRankRefusal n r cause → IsRankRefusal n r other → cause ≡ other
-one_rank_refusal n r (Flat f) other a b = absurd a
-one_rank_refusal n r (Limit Codim told) (Flat f) a b = absurd b
-one_rank_refusal n r (Limit Codim told) (Limit Codim other) a b = ap (Limit Codim) (a.0 ∙ sym b.0)
-one_rank_refusal n r (Limit Codim told) (Limit Rank other) a b = let x = a.1 in let y = b.1 in absurd (omega (arith, x, y))
-one_rank_refusal n r (Limit Codim told) (Limit name other) a b = absurd b
-one_rank_refusal n r (Limit Rank told) (Flat f) a b = absurd b
-one_rank_refusal n r (Limit Rank told) (Limit Codim other) a b = let x = a.1 in let y = b.1 in absurd (omega (arith, x, y))
-one_rank_refusal n r (Limit Rank told) (Limit Rank other) a b = ap (Limit Rank) (a.0 ∙ sym b.0)
-one_rank_refusal n r (Limit Rank told) (Limit name other) a b = absurd b
-one_rank_refusal n r (Limit name told) other a b = absurd a
-
-within_or_refused : (n r : ℕ) (cause : Refusal) → IsWithinRank n r → IsRankRefusal n r cause → ⊥
-within_or_refused n r (Flat f) w b = b
-within_or_refused n r (Limit Codim told) w b = let x = w.0 in let y = b.1 in omega (arith, x, y)
-within_or_refused n r (Limit Rank told) w b = let x = w.1 in let y = b.2 in omega (arith, x, y)
-within_or_refused n r (Limit name told) w b = b
+use Rattle.nef_report.specs.Items.{HasPolytope, HasBarePoints, IsPolytopeRefusal, IsOther, HasPair, HasLargeDual, IsKindRefusal}
+use Rattle.nef_report.specs.Items.{ArePartsRefused, IsListed, HasManyParts, IsItemRefusal}
+use Rattle.nef_report.proofs.SingleParts.{one_parts_refusal, few_or_refused}
 
 module _ (item : Listed) where
   -- an item has one polytope, and one pair
@@ -91,26 +72,26 @@ module _ (item : Listed) where
   other_or_pair p pair a b = a.other
       (subst (λ (q : PolytopeState). IsReflexivePolytope q) (one_polytope pair.m p b.has_polytope a.has_polytope) b.is_pair.reflexive)
 
-  module _ (r : ℕ) where
-    same_parts : (pair : PairState) (cause : Refusal) (b : HasManyParts r item cause) → HasPair item pair
-        → IsRankRefusal (dimension_of pair.m.vertices) r cause
-    same_parts pair cause b a = subst (λ (q : PairState). IsRankRefusal (dimension_of q.m.vertices) r cause) (one_pair b.pair pair b.has_pair a) b.refused
+  module _ (words : NefWords) where
+    same_parts : (pair : PairState) (cause : Refusal) (b : HasManyParts words item cause) → HasPair item pair
+        → ArePartsRefused words.list_only pair words.codim cause
+    same_parts pair cause b a = subst (λ (q : PairState). ArePartsRefused words.list_only q words.codim cause) (one_pair b.pair pair b.has_pair a) b.refused
 
-    pub one_item_refusal : (cause other : Refusal) → IsItemRefusal r item cause → IsItemRefusal r item other → cause ≡ other
+    pub one_item_refusal : (cause other : Refusal) → IsItemRefusal words item cause → IsItemRefusal words item other → cause ≡ other
     one_item_refusal cause other (inl a) (inl b) = one_kind_refusal cause other a b
     one_item_refusal cause other (inl a) (inr b) = absurd (pair_or_refusal b.pair cause b.has_pair a)
     one_item_refusal cause other (inr a) (inl b) = absurd (pair_or_refusal a.pair other a.has_pair b)
     one_item_refusal cause other (inr a) (inr b) =
-        one_rank_refusal (dimension_of a.pair.m.vertices) r cause other a.refused (same_parts a.pair other b a.has_pair)
+        one_parts_refusal words.list_only a.pair words.codim cause other a.refused (same_parts a.pair other b a.has_pair)
 
-    pub listed_or_refused : (pair : PairState) (cause : Refusal) → IsListed r item pair → IsItemRefusal r item cause → ⊥
+    pub listed_or_refused : (pair : PairState) (cause : Refusal) → IsListed words item pair → IsItemRefusal words item cause → ⊥
     listed_or_refused pair cause a (inl b) = pair_or_refusal pair cause a.has_pair b
     listed_or_refused pair cause a (inr b) =
-        within_or_refused (dimension_of pair.m.vertices) r cause a.within (same_parts pair cause b a.has_pair)
+        few_or_refused words.list_only pair words.codim cause a.within (same_parts pair cause b a.has_pair)
 
-    pub other_or_refused : (p : PolytopeState) (cause : Refusal) → IsOther item p → IsItemRefusal r item cause → ⊥
+    pub other_or_refused : (p : PolytopeState) (cause : Refusal) → IsOther item p → IsItemRefusal words item cause → ⊥
     other_or_refused p cause a (inl b) = other_or_kind_refusal p cause a b
     other_or_refused p cause a (inr b) = other_or_pair p b.pair a b.has_pair
 
-    pub other_or_listed : (p : PolytopeState) (pair : PairState) → IsOther item p → IsListed r item pair → ⊥
+    pub other_or_listed : (p : PolytopeState) (pair : PairState) → IsOther item p → IsListed words item pair → ⊥
     other_or_listed p pair a b = other_or_pair p pair a b.has_pair

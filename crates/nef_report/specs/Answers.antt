@@ -6,6 +6,7 @@ use Rattle.palp_io.specs.Faults.{Rose}
 use Rattle.palp_io.specs.Sink.{SinkState, Gains, IsGiveFault}
 use Rattle.report_theory.specs.Report.{Whole, Ends}
 use Rattle.report_theory.specs.Giving.{GivesItem, GivesFront}
+use Rattle.palp_words.specs.declared.job.NefWords.{NefWords}
 use Rattle.palp_input.specs.Grammar.{Listed}
 use Rattle.nef_report.specs.Partitions.{PartitionsSay}
 use Rattle.nef_report.specs.declared.fault.NefFault.{NefFault}
@@ -13,11 +14,11 @@ use Rattle.nef_report.specs.declared.fault.NefFault.TheVariants as faults
 
 -- what the answer for an item means: all its pieces were appended, and it isn't refused, or this is its first refusal, behind the pieces before
 -- it; or, where the count of faults rose or memory was wanting, a front of its pieces was appended
-abbrev pub ListingMeans : Result (Unit {0}) NefFault → ℕ → Listed → SinkState → SinkState → Type 0
-ListingMeans (Ok done) r item before now = GivesItem (PartitionsSay r) item Whole before now
-ListingMeans (Err (faults.Refused cause)) r item before now = GivesItem (PartitionsSay r) item (Ends cause) before now
-ListingMeans (Err faults.Write) r item before now = Rose before.faults now.faults × GivesFront (PartitionsSay r) (item ∷ []) before now
-ListingMeans (Err faults.NoMemory) r item before now = GivesFront (PartitionsSay r) (item ∷ []) before now
+abbrev pub ListingMeans : Result (Unit {0}) NefFault → NefWords → Listed → SinkState → SinkState → Type 0
+ListingMeans (Ok done) words item before now = GivesItem (PartitionsSay words) item Whole before now
+ListingMeans (Err (faults.Refused cause)) words item before now = GivesItem (PartitionsSay words) item (Ends cause) before now
+ListingMeans (Err faults.Write) words item before now = Rose before.faults now.faults × GivesFront (PartitionsSay words) (item ∷ []) before now
+ListingMeans (Err faults.NoMemory) words item before now = GivesFront (PartitionsSay words) (item ∷ []) before now
 
 -- what giving a line means
 abbrev pub LineAnswer : List ℕ → SinkState → SinkState → Result (Unit {0}) NefFault → Type 0

@@ -1,15 +1,16 @@
 -- The polytope of an item and its dual, or why it has none within the limits (alg-geom/9310003: reflexive polytopes and their duals; the limits
 -- are this project's own).
-use Rattle.std.specs.Prelude.{◌⊎◌, ℕ, List, ℤ}
+use Rattle.std.specs.Prelude.{◌⊎◌, ℕ, Bool, true, false, List, ℤ}
 use Rattle.lattice_core.specs.Dimensions.{dimension_of}
 use Rattle.lattice_core.specs.declared.faults.Refusal.{Refusal}
+use Rattle.palp_words.specs.declared.job.NefWords.{NefWords}
 use Rattle.palp_input.specs.Grammar.{Listed}
 use Rattle.item_points.specs.Points.{HasPoints, IsPointsRefusal}
 use Rattle.dual_pair.specs.Polytopes.{PolytopeState, IsPolytopeOf, HasNoPolytope}
 use Rattle.dual_pair.specs.Pairs.{PairState, IsPair, IsReflexivePolytope, HasNoDual}
 use Rattle.dual_pair.specs.declared.pair.Kind.{Kind}
 use Rattle.dual_pair.specs.declared.pair.Kind.TheVariants as kinds
-use Rattle.cayley.specs.Limits.{IsWithinRank, IsRankRefusal}
+use Rattle.cayley.specs.Limits.{IsWithinRank, IsRankRefusal, IsWithinScans, IsScanRefusal}
 
 -- the item has this polytope: that of its points
 pub record HasPolytope (item : Listed) (p : PolytopeState) : Type 0 where
@@ -52,17 +53,28 @@ IsKind item (kinds.Other p) = IsOther item p
 abbrev pub IsKindRefusal : Listed → Refusal → Type 0
 IsKindRefusal item cause = IsPolytopeRefusal item cause ⊎ HasLargeDual item cause
 
--- the item has a pair whose nef partitions into r parts are listed: so many parts are within the limits
-pub record IsListed (r : ℕ) (item : Listed) (pair : PairState) : Type 0 where
-  pub has_pair : HasPair item pair
-  pub within : IsWithinRank (dimension_of pair.m.vertices) r
+-- r parts are within the limits: where partitions are only listed, those on the number of parts; and where their numbers are told, those on the lattice
+-- points of a large dilate of the polytope and of its dual, too
+abbrev pub AreFewParts : Bool → PairState → ℕ → Type 0
+AreFewParts true pair r = IsWithinRank (dimension_of pair.m.vertices) r
+AreFewParts false pair r = IsWithinScans pair r
 
--- the item has a pair, but r parts aren't within the limits
-pub record HasManyParts (r : ℕ) (item : Listed) (cause : Refusal) : Type 0 where
+-- or they aren't, for this cause
+abbrev pub ArePartsRefused : Bool → PairState → ℕ → Refusal → Type 0
+ArePartsRefused true pair r cause = IsRankRefusal (dimension_of pair.m.vertices) r cause
+ArePartsRefused false pair r cause = IsScanRefusal pair r cause
+
+-- the item has a pair whose nef partitions are listed, as the words ask: so many parts are within the limits
+pub record IsListed (words : NefWords) (item : Listed) (pair : PairState) : Type 0 where
+  pub has_pair : HasPair item pair
+  pub within : AreFewParts words.list_only pair words.codim
+
+-- the item has a pair, but so many parts aren't within the limits
+pub record HasManyParts (words : NefWords) (item : Listed) (cause : Refusal) : Type 0 where
   pub pair : PairState
   pub has_pair : HasPair item pair
-  pub refused : IsRankRefusal (dimension_of pair.m.vertices) r cause
+  pub refused : ArePartsRefused words.list_only pair words.codim cause
 
 -- why the item is refused before anything is printed of it
-abbrev pub IsItemRefusal : ℕ → Listed → Refusal → Type 0
-IsItemRefusal r item cause = IsKindRefusal item cause ⊎ HasManyParts r item cause
+abbrev pub IsItemRefusal : NefWords → Listed → Refusal → Type 0
+IsItemRefusal words item cause = IsKindRefusal item cause ⊎ HasManyParts words item cause

@@ -1,9 +1,11 @@
-//! What `nef` says of an item: that its polytope isn't reflexive, or its nef partitions, one after another. It stands on `item_points` and
-//! `dual_pair` for the item's polytope and its dual, on `cayley` for the limits on the number of parts, on `nef_parts` for the partitions, on
-//! `report_theory` for what a report is, on `palp_print` for lines and on `palp_io` for sinks.
+//! What `nef` says of an item: that its polytope isn't reflexive, or its nef partitions, one after another, with their stringy numbers or without. It
+//! stands on `item_points` and `dual_pair` for the item's polytope and its dual, on `cayley` for the limits on the number of parts, on `nef_parts`
+//! for the partitions, on `nef_numbers` and `stringy` for their numbers, on `report_theory` for what a report is, on `palp_words` for what is asked, on
+//! `palp_print` for lines and on `palp_io` for sinks.
 //!
-//! Its central theorem: what is given to the sink is exactly what is said of the item, each nef partition of the definition once, in order and
-//! with its number, up to the item's first refusal; or a front of it where the sink failed or memory was wanting (`list_partitions`).
+//! Its central theorem: what is given to the sink is exactly what is said of the item, each nef partition of the definition once, in order, with its
+//! number and the numbers that are asked, up to the item's first refusal; or a front of it where the sink failed or memory was wanting
+//! (`list_partitions`).
 #![tactic(auto)]
 
 mod fault;
@@ -11,6 +13,7 @@ mod items;
 mod laws;
 mod lines;
 mod listing;
+mod pieces;
 #[cfg(test)]
 mod tests;
 

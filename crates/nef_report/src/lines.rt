@@ -2,7 +2,6 @@
 ghost use Rattle.std.specs.Prelude.{◌≡◌, ◌++◌, OnOk};
 ghost use Rattle.palp_input.specs.Grammar.{listed};
 ghost use Rattle.palp_print.specs.Lists.{closing};
-ghost use Rattle.palp_print.specs.Partitions.{partition};
 ghost use Rattle.palp_print.specs.declared.titles.CountTitle.TheVariants as CountTitle;
 ghost use Rattle.nef_report.specs.Partitions.{item_echo, body_text, heading_text};
 ghost use Rattle.nef_report.specs.Answers.{LineMeans};
@@ -15,7 +14,7 @@ use palp_io::{Gave, Sink};
 use palp_print::{CountTitle, Page};
 
 /// Gives what stands on a page.
-fn give<O: Sink>(page: &Page, out: &mut O) -> Result<(), NefFault>
+pub(crate) fn give<O: Sink>(page: &Page, out: &mut O) -> Result<(), NefFault>
     ensures { LineMeans page.now (O.state out.old) (O.state out.new) result }
 {
     match out.give(page.bytes()) {
@@ -69,20 +68,6 @@ pub(crate) fn give_heading<O: Sink>(
     page.clear();
     put_echo(page, item)?;
     page.nef_line(m_points, m_vertices, n_points, n_vertices, codim)?;
-    give(page, out)
-}
-
-/// Gives the line of a partition.
-pub(crate) fn give_partition<O: Sink>(
-    page: &mut Page,
-    number: u64,
-    part_of: &[u8],
-    out: &mut O,
-) -> Result<(), NefFault>
-    ensures { LineMeans (partition number part_of.now) (O.state out.old) (O.state out.new) result }
-{
-    page.clear();
-    page.partition(number, part_of)?;
     give(page, out)
 }
 

@@ -14,17 +14,16 @@ use Rattle.palp_words.specs.declared.job.PolyFlags.{PolyFlags}
 use Rattle.palp_input.specs.Grammar.{Listed}
 use Rattle.palp_engine.specs.Items.{IsPiece, IsUnwanted, IsItemRefused}
 use Rattle.palp_engine.specs.Entries.{Entry, TextItem}
-use Rattle.palp_engine.specs.Commands.{IsBuilt, BlocksSay, printed, whole, unwanted, refused, Says}
+use Rattle.palp_engine.specs.Commands.{BlocksSay, printed, whole, unwanted, refused, Says}
 use Rattle.palp_engine.specs.Sessions.{EntryMeans}
 use Rattle.palp_engine.specs.RunSteps.{IsItemStop}
 use Rattle.palp_engine.specs.PieceSteps.{IsWritten}
 use Rattle.palp_engine.specs.declared.session.ItemFault.{ItemFault}
 
--- a job that is built says what its letters say
-built_says : (job : Job) (flags : PolyFlags) (item : Listed) (k : ℕ) (step : Step Refusal) → job ≡ Poly flags → IsBuilt job
-    → BlocksSay flags item k step → Says job (TextItem item) k step
-built_says job flags item k step is built a =
-    subst (λ (j : Job). Says j (TextItem item) k step) (sym is) a
+-- the job says what its letters say
+poly_says : (job : Job) (flags : PolyFlags) (item : Listed) (k : ℕ) (step : Step Refusal) → job ≡ Poly flags → BlocksSay flags item k step
+    → Says job (TextItem item) k step
+poly_says job flags item k step is a = subst (λ (j : Job). Says j (TextItem item) k step) (sym is) a
 
 -- what was written, by the answer
 module _ (flags : PolyFlags) (item : Listed) (page : List ℕ) where
@@ -36,13 +35,13 @@ module _ (flags : PolyFlags) (item : Listed) (page : List ℕ) where
   unwritten true e w = absurd (cc)
   unwritten false e w = w
 
-module _ (job : Job) (flags : PolyFlags) (is : job ≡ Poly flags) (built : IsBuilt job) (item : Listed) (out : SinkState) where
+module _ (job : Job) (flags : PolyFlags) (is : job ≡ Poly flags) (item : Listed) (out : SinkState) where
   abbrev entry : Entry
   entry = TextItem item
 
   pub refused_item : (cause : Refusal) → IsItemRefused flags item cause → GivesItem (Says job) entry (Ends cause) out out
   refused_item cause a = item_closed (Says job) out out entry 0 (item_nothing (Says job) out entry) (Ends cause)
-      (built_says job flags item 0 _ is built (refused a))
+      (poly_says job flags item 0 _ is (refused a))
 
   pub no_piece : GivesFront (Says job) (entry ∷ []) out out
   no_piece = item_front (Says job) out out entry 0 (item_nothing (Says job) out entry)
@@ -57,15 +56,15 @@ module _ (job : Job) (flags : PolyFlags) (is : job ≡ Poly flags) (built : IsBu
   -- an item without a piece
   pub unwanted_item : IsUnwanted flags item → GivesItem (Says job) entry Whole out out
   unwanted_item u = item_closed (Says job) out out entry 0 (item_nothing (Says job) out entry) Whole
-      (built_says job flags item 0 _ is built (unwanted u))
+      (poly_says job flags item 0 _ is (unwanted u))
 
   module _ (piece : List ℕ) (is_piece : IsPiece flags item piece) (last : SinkState) (later : out.faults ≤ last.faults) where
     pub whole_item : Gains out last piece → GivesItem (Says job) entry Whole out last
     whole_item g = item_closed (Says job) out last entry 1
-        (item_piece (Says job) out out entry 0 (item_nothing (Says job) out entry) piece last (built_says job flags item 0 _ is built (printed is_piece))
+        (item_piece (Says job) out out entry 0 (item_nothing (Says job) out entry) piece last (poly_says job flags item 0 _ is (printed is_piece))
         g later)
-        Whole (built_says job flags item 1 _ is built whole)
+        Whole (poly_says job flags item 1 _ is whole)
 
     pub part_of_item : GainsFront out last piece → GivesFront (Says job) (entry ∷ []) out last
     part_of_item g = item_part (Says job) out out entry 0 (item_nothing (Says job) out entry) piece last
-        (built_says job flags item 0 _ is built (printed is_piece)) g later
+        (poly_says job flags item 0 _ is (printed is_piece)) g later

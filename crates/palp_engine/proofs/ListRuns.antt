@@ -19,7 +19,7 @@ use Rattle.weight_lists.specs.Answers.{IsRange, ReportMeans, Reports}
 use Rattle.weight_lists.specs.declared.fault.ListFault.{ListFault}
 use Rattle.weight_lists.specs.declared.fault.ListFault.TheVariants as lists
 use Rattle.palp_engine.specs.Entries.{OfList, AreEntries}
-use Rattle.palp_engine.specs.Commands.{ReadsText, AreBuilt, Says}
+use Rattle.palp_engine.specs.Commands.{ReadsText, GiveJob, Says}
 use Rattle.palp_engine.specs.Texts.{outcome_with, HaveReport, of_entries, front_of_entries}
 use Rattle.palp_engine.specs.Runs.{HavePassed, text_of, IsText, IsReported, IsReportedInPart}
 use Rattle.palp_engine.specs.RunSteps.{IsGiven, list_outcome, PerformedMeans, IsPerformed}
@@ -69,15 +69,15 @@ module _ (job : Job) (unread : ReadsText job → ⊥) (says : ListEntry → ℕ 
   unfolding text
   is_text = record { bytes = []; have_passed = passed; text_is = refl }
 
-  module _ (words : List (List ℕ)) (built : AreBuilt words) (same : built.job ≡ job) (listed : List ListEntry)
+  module _ (words : List (List ℕ)) (asked : GiveJob words) (same : asked.job ≡ job) (listed : List ListEntry)
       (are : AreListEntries dim low high listed) where
-    entries : AreEntries built.job text (map OfList listed) End
+    entries : AreEntries asked.job text (map OfList listed) End
     entries = subst (λ (j : Job). AreEntries j text (map OfList listed) End) (sym same) (reports_on text listed are)
 
     reported : (stop : Option (Stop Refusal)) → GivesReport says listed stop out out_now
         → IsReported words source source out out_now (outcome_with stop End)
     reported stop g =
-        let have : HaveReport words text g.report (outcome_with stop End) = of_entries built End entries
+        let have : HaveReport words text g.report (outcome_with stop End) = of_entries asked End entries
         (subst (λ (j : Job). IsListReport (Says j) 1 0 (map OfList listed) g.report stop) (sym same)
         (moved_report says (Says job) OfList moved 1 0 listed g.report stop g.is_report)) in
         record {
@@ -94,7 +94,7 @@ module _ (job : Job) (unread : ReadsText job → ⊥) (says : ListEntry → ℕ 
       text = text;
       is_text = is_text;
       front = g.front;
-      is_front = front_of_entries built End entries
+      is_front = front_of_entries asked End entries
           (subst (λ (j : Job). IsListFront (Says j) 0 (map OfList listed) g.front) (sym same)
           (moved_front says (Says job) OfList moved 0 listed g.front g.is_front));
       gives = g.gives;
@@ -105,7 +105,7 @@ module _ (job : Job) (unread : ReadsText job → ⊥) (says : ListEntry → ℕ 
     means_of (Ok done) m = record {
       reported = reported None m;
       has_ended = λ other gives reads. absurd (unread
-          (subst ReadsText (same_job words other built.job gives built.gives ∙ same) reads));
+          (subst ReadsText (same_job words other asked.job gives asked.gives ∙ same) reads));
     }
     means_of (Err (lists.Refused number cause)) m = reported (stop_at number cause) m
     means_of (Err lists.Write) m = record { rose = m.0; in_part = in_part m.1 }
@@ -116,7 +116,7 @@ module _ (job : Job) (unread : ReadsText job → ⊥) (says : ListEntry → ℕ 
   performed result outcome e r = subst (λ (o : Outcome). IsPerformed job source source out out_now o) (sym e) (record {
     taken = ([], passed);
     kept = λ none. refl;
-    means = λ words built same. means_of words built same r.entries r.are_entries result r.means;
+    means = λ words asked same. means_of words asked same r.entries r.are_entries result r.means;
   })
 
 -- the ranges of the words

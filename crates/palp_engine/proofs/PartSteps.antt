@@ -1,5 +1,4 @@
 -- What is said of an item's nef partitions, as what `nef` says of an entry.
-use Rattle.std.specs.Prelude.{IsTrue}
 use Rattle.std.proofs.Common.{ℕ, ◌+◌, ◌≡◌, List, [], ◌∷◌, map, Result, Ok, Err, sym, subst}
 use Rattle.lattice_core.specs.declared.faults.Refusal.{Refusal}
 use Rattle.palp_io.specs.Sink.{SinkState}
@@ -43,21 +42,21 @@ module _ {X Y R : Type 0} (says : X → ℕ → Step R → Type 0) (tells : Y �
   pub moved_part : (item : X) (before now : SinkState) → GivesFront says (item ∷ []) before now → GivesFront tells (stands item ∷ []) before now
   moved_part item before now g = record { front = g.front; is_front = moved_front 0 (item ∷ []) g.front g.is_front; gives = g.gives }
 
-module _ (words : NefWords) (only : IsTrue words.list_only) (item : Listed) (before now : SinkState) where
-  says_it : (x : Listed) (k : ℕ) (step : Step Refusal) → PartitionsSay words.codim x k step → Says (Nef words) (TextItem x) k step
-  says_it x k step s = (only, s)
+module _ (words : NefWords) (item : Listed) (before now : SinkState) where
+  says_it : (x : Listed) (k : ℕ) (step : Step Refusal) → PartitionsSay words x k step → Says (Nef words) (TextItem x) k step
+  says_it x k step s = s
 
-  as_item : (closing : Closing Refusal) → GivesItem (PartitionsSay words.codim) item closing before now
+  as_item : (closing : Closing Refusal) → GivesItem (PartitionsSay words) item closing before now
       → GivesItem (Says (Nef words)) (TextItem item) closing before now
-  as_item closing g = moved_item (PartitionsSay words.codim) (Says (Nef words)) TextItem says_it item closing before now g
+  as_item closing g = moved_item (PartitionsSay words) (Says (Nef words)) TextItem says_it item closing before now g
 
-  as_part : GivesFront (PartitionsSay words.codim) (item ∷ []) before now → GivesFront (Says (Nef words)) (TextItem item ∷ []) before now
-  as_part g = moved_part (PartitionsSay words.codim) (Says (Nef words)) TextItem says_it item before now g
+  as_part : GivesFront (PartitionsSay words) (item ∷ []) before now → GivesFront (Says (Nef words)) (TextItem item ∷ []) before now
+  as_part g = moved_part (PartitionsSay words) (Says (Nef words)) TextItem says_it item before now g
 
-  pub parts_given : ListingMeans (Ok tt) words.codim item before now → EntryMeans (Ok tt) (Nef words) (TextItem item) before now
+  pub parts_given : ListingMeans (Ok tt) words item before now → EntryMeans (Ok tt) (Nef words) (TextItem item) before now
   parts_given g = as_item Whole g
 
-  pub parts_stopped : (fault : NefFault) (told : ItemFault) → ListingMeans (Err fault) words.codim item before now → IsListStop fault told
+  pub parts_stopped : (fault : NefFault) (told : ItemFault) → ListingMeans (Err fault) words item before now → IsListStop fault told
       → EntryMeans (Err told) (Nef words) (TextItem item) before now
   parts_stopped (lists.Refused cause) told g e =
       subst (λ (t : ItemFault). EntryMeans (Err t) (Nef words) (TextItem item) before now) (sym e) (as_item (Ends cause) g)

@@ -21,7 +21,7 @@ use Rattle.palp_input.specs.Items.{IsItem}
 use Rattle.palp_input.proofs.Readings.{calls_read, calls_read_taken}
 use Rattle.palp_input.proofs.ItemForms.{items_are_items}
 use Rattle.palp_engine.specs.Entries.{Entry, TextItem, item_entry, AreTextEntries, AreEntries}
-use Rattle.palp_engine.specs.Commands.{AreBuilt, ReadsText, Says}
+use Rattle.palp_engine.specs.Commands.{GiveJob, ReadsText, Says}
 use Rattle.palp_engine.specs.Texts.{outcome_with, HaveReport, of_entries, no_front, front_of_entries}
 use Rattle.palp_engine.specs.Sessions.{EntryMeans}
 use Rattle.palp_engine.specs.Runs.{HavePassed, text_of, IsText, IsReported, IsReportedInPart, HasReadFault}
@@ -73,16 +73,16 @@ module _ (job : Job) (reads : ReadsText job) (source last : SourceState) (out ou
   is_text : IsText source last (text_of source.left bytes)
   is_text = record { bytes = bytes; have_passed = passed; text_is = refl }
 
-  module _ (words : List (List ℕ)) (built : AreBuilt words) (same : built.job ≡ job) where
-    are_entries : AreEntries built.job (text_of source.left bytes) (map TextItem items) ending
-    are_entries = read_entries built.job (text_of source.left bytes) (map TextItem items) ending (subst ReadsText (sym same) reads)
+  module _ (words : List (List ℕ)) (asked : GiveJob words) (same : asked.job ≡ job) where
+    are_entries : AreEntries asked.job (text_of source.left bytes) (map TextItem items) ending
+    are_entries = read_entries asked.job (text_of source.left bytes) (map TextItem items) ending (subst ReadsText (sym same) reads)
         (record { entries_are = sym (ap (map TextItem) items_are); ending_is = sym ending_is })
 
     pub reported : (stop : Option (Stop Refusal)) (outcome : Outcome) → GivesReport (Says job) (map TextItem items) stop out out_now
         → outcome ≡ outcome_with stop ending → IsReported words source last out out_now outcome
     reported stop outcome g o =
         let have : HaveReport words (text_of source.left bytes) g.report outcome =
-        subst (λ (x : Outcome). HaveReport words (text_of source.left bytes) g.report x) (sym o) (of_entries built ending are_entries
+        subst (λ (x : Outcome). HaveReport words (text_of source.left bytes) g.report x) (sym o) (of_entries asked ending are_entries
         (subst (λ (j : Job). IsListReport (Says j) 1 0 (map TextItem items) g.report stop) (sym same) g.is_report)) in
         record {
           text = text_of source.left bytes;
@@ -98,7 +98,7 @@ module _ (job : Job) (reads : ReadsText job) (source last : SourceState) (out ou
       text = text_of source.left bytes;
       is_text = is_text;
       front = g.front;
-      is_front = front_of_entries built ending are_entries
+      is_front = front_of_entries asked ending are_entries
           (subst (λ (j : Job). IsListFront (Says j) 0 (map TextItem items) g.front) (sym same) g.is_front);
       gives = g.gives;
     }
@@ -134,38 +134,38 @@ module _ (job : Job) (reads : ReadsText job) (source middle last : SourceState) 
     text_ending : (read_text (text_of source.left (Bytes result m))).ending ≡ ending
     text_ending = ap (λ (t : TextRead). t.ending) text_read
 
-    run_reported : (words : List (List ℕ)) (built : AreBuilt words) → built.job ≡ job → (outcome : Outcome)
+    run_reported : (words : List (List ℕ)) (asked : GiveJob words) → asked.job ≡ job → (outcome : Outcome)
         → outcome ≡ outcome_with None ending → IsReported words source last out mid outcome
-    run_reported words built same outcome o = reported job reads source last out mid (Bytes result m) (whole_passed result m) items ending
-        text_items text_ending words built same None outcome
+    run_reported words asked same outcome o = reported job reads source last out mid (Bytes result m) (whole_passed result m) items ending
+        text_items text_ending words asked same None outcome
         (reported_all (Says job) out mid (map TextItem items) None so_far.reported) o
 
   pub run_done : NextMeans (Ok None) before now middle last → IsPerformed job source last out mid Done
   run_done m = record {
     taken = (Bytes (Ok None) m, whole_passed (Ok None) m);
     kept = λ none. absurd (none reads);
-    means = λ words built same. record {
+    means = λ words asked same. record {
       reported = run_reported (Ok None) m End (calls_read_taken (Ok None) before now middle last m)
-          (λ more told. calls_read (Ok None) before now more middle last told m) words built same Done refl;
+          (λ more told. calls_read (Ok None) before now more middle last told m) words asked same Done refl;
       has_ended = λ given gives reads. m.handed m.answer.has_ended;
     };
   }
 
   -- want of memory, or a front of a report
   run_front : (result : Result (Option Item) NextFault) (m : NextMeans result before now middle last) (words : List (List ℕ))
-      (built : AreBuilt words) → built.job ≡ job → IsReportedInPart words source last out mid
-  run_front result m words built same =
+      (asked : GiveJob words) → asked.job ≡ job → IsReportedInPart words source last out mid
+  run_front result m words asked same =
       let behind = text_behind source middle before items so_far.read m.bytes (λ e. (m.untaken e).nothing) in
       let read = text_reading source middle before items so_far.read m.bytes behind in
       let more = reading_of before behind.more in
       in_part job reads source last out mid (Bytes result m) (whole_passed result m) (items ++ more.items) more.ending
-      (ap (λ (t : TextRead). t.items) read) (ap (λ (t : TextRead). t.ending) read) words built same
+      (ap (λ (t : TextRead). t.items) read) (ap (λ (t : TextRead). t.ending) read) words asked same
       (subst (λ (xs : List Entry). GivesFront (Says job) xs out mid) (sym (map-append TextItem items more.items))
       (reported_front (Says job) out mid (map TextItem items) None so_far.reported (map TextItem more.items)))
 
-  run_read_fault : (m : NextMeans (Err Read) before now middle last) (words : List (List ℕ)) (built : AreBuilt words) → built.job ≡ job
+  run_read_fault : (m : NextMeans (Err Read) before now middle last) (words : List (List ℕ)) (asked : GiveJob words) → asked.job ≡ job
       → HasReadFault words source last out mid
-  run_read_fault m words built same =
+  run_read_fault m words asked same =
       let report = reported_all (Says job) out mid (map TextItem items) None so_far.reported in
       record {
         rose = Rose-late source.faults middle.faults last.faults so_far.read.later m.answer.rose;
@@ -173,7 +173,7 @@ module _ (job : Job) (reads : ReadsText job) (source middle last : SourceState) 
         have_passed = whole_passed (Err Read) m;
         report = report.report;
         is_ended = record {
-          built = built;
+          asked = asked;
           reads = subst ReadsText (sym same) reads;
           items = items;
           are_ended = ended_items source middle before items so_far.read m.bytes m.answer.unended m.answer.no_item;
@@ -182,16 +182,16 @@ module _ (job : Job) (reads : ReadsText job) (source middle last : SourceState) 
         gives = report.gives;
       }
 
-  unread_means : (fault : NextFault) (m : NextMeans (Err fault) before now middle last) (words : List (List ℕ)) (built : AreBuilt words)
-      → built.job ≡ job → PerformedMeans words source last out mid (outcome_unread fault)
-  unread_means (Text fault) m words built same = run_reported (Err (Text fault)) m (FaultEnd fault)
+  unread_means : (fault : NextFault) (m : NextMeans (Err fault) before now middle last) (words : List (List ℕ)) (asked : GiveJob words)
+      → asked.job ≡ job → PerformedMeans words source last out mid (outcome_unread fault)
+  unread_means (Text fault) m words asked same = run_reported (Err (Text fault)) m (FaultEnd fault)
       (calls_read_taken (Err (Text fault)) before now middle last m)
-      (λ more told. calls_read (Err (Text fault)) before now more middle last told m) words built same (BadText fault) refl
-  unread_means TooLong m words built same = run_reported (Err TooLong) m TooLongEnd
+      (λ more told. calls_read (Err (Text fault)) before now more middle last told m) words asked same (BadText fault) refl
+  unread_means TooLong m words asked same = run_reported (Err TooLong) m TooLongEnd
       (calls_read_taken (Err TooLong) before now middle last m)
-      (λ more told. calls_read (Err TooLong) before now more middle last told m) words built same TextLimit refl
-  unread_means Read m words built same = run_read_fault m words built same
-  unread_means NoReadingMemory m words built same = run_front (Err NoReadingMemory) m words built same
+      (λ more told. calls_read (Err TooLong) before now more middle last told m) words asked same TextLimit refl
+  unread_means Read m words asked same = run_read_fault m words asked same
+  unread_means NoReadingMemory m words asked same = run_front (Err NoReadingMemory) m words asked same
 
   -- there is no next item, and the text doesn't end
   pub run_unread : (fault : NextFault) (outcome : Outcome) → outcome ≡ outcome_unread fault
@@ -199,7 +199,7 @@ module _ (job : Job) (reads : ReadsText job) (source middle last : SourceState) 
   run_unread fault outcome o m = subst (λ (x : Outcome). IsPerformed job source last out mid x) (sym o) (record {
     taken = (Bytes (Err fault) m, whole_passed (Err fault) m);
     kept = λ none. absurd (none reads);
-    means = λ words built same. unread_means fault m words built same;
+    means = λ words asked same. unread_means fault m words asked same;
   })
 
   module _ (item : Item) (m : NextMeans (Ok (Some item)) before now middle last) (end : SinkState) where
@@ -238,43 +238,43 @@ module _ (job : Job) (reads : ReadsText job) (source middle last : SourceState) 
           ap (λ (r : TextRead). r.ending) (bytes ∙ same),
         )
 
-    last_part : GivesFront (Says job) (item_entry item ∷ []) mid end → (words : List (List ℕ)) (built : AreBuilt words) → built.job ≡ job
+    last_part : GivesFront (Says job) (item_entry item ∷ []) mid end → (words : List (List ℕ)) (asked : GiveJob words) → asked.job ≡ job
         → IsReportedInPart words source last out end
-    last_part g words built same =
+    last_part g words asked same =
         in_part job reads source last out end taken taken_passed (items ++ listed item ∷ behind.0.items) behind.0.ending behind.1 behind.2
-        words built same
+        words asked same
         (subst (λ (xs : List Entry). GivesFront (Says job) xs out end) (sym (entries_more items behind.0.items (listed item)))
         (reported_part (Says job) out mid (map TextItem items) None so_far.reported (item_entry item) end (map TextItem behind.0.items) g))
 
     last_refused : (cause : Refusal) → EntryMeans (Err (faults.Refused cause)) job (item_entry item) mid end → (words : List (List ℕ))
-        (built : AreBuilt words) → built.job ≡ job → IsReported words source last out end (Refused (number + 1) cause)
-    last_refused cause g words built same =
+        (asked : GiveJob words) → asked.job ≡ job → IsReported words source last out end (Refused (number + 1) cause)
+    last_refused cause g words asked same =
         let stop : Option (Stop Refusal) = stop_at (length (map TextItem items) + 1) cause in
         reported job reads source last out end taken taken_passed (items ++ listed item ∷ behind.0.items) behind.0.ending behind.1
-        behind.2 words built same stop (Refused (number + 1) cause)
+        behind.2 words asked same stop (Refused (number + 1) cause)
         (subst (λ (xs : List Entry). GivesReport (Says job) xs stop out end) (sym (entries_more items behind.0.items (listed item)))
         (reported_end (Says job) out mid (map TextItem items) None so_far.reported (item_entry item) end (map TextItem behind.0.items)
         cause g))
         (ap (λ (n : ℕ). Refused (n + 1) cause) (so_far.number_is ∙ sym (length-map items TextItem)))
 
     stopped_means : (fault : ItemFault) (outcome : Outcome) → IsStopped (number + 1) fault outcome
-        → EntryMeans (Err fault) job (item_entry item) mid end → (words : List (List ℕ)) (built : AreBuilt words) → built.job ≡ job
+        → EntryMeans (Err fault) job (item_entry item) mid end → (words : List (List ℕ)) (asked : GiveJob words) → asked.job ≡ job
         → PerformedMeans words source last out end outcome
-    stopped_means (faults.Refused cause) outcome s g words built same =
-        subst (λ (x : Outcome). PerformedMeans words source last out end x) (sym s) (last_refused cause g words built same)
-    stopped_means faults.Write outcome s g words built same =
+    stopped_means (faults.Refused cause) outcome s g words asked same =
+        subst (λ (x : Outcome). PerformedMeans words source last out end x) (sym s) (last_refused cause g words asked same)
+    stopped_means faults.Write outcome s g words asked same =
         subst (λ (x : Outcome). PerformedMeans words source last out end x) (sym s)
         (record {
           rose = Rose-late out.faults mid.faults end.faults so_far.reported.gives.later g.0;
-          in_part = last_part g.1 words built same;
+          in_part = last_part g.1 words asked same;
         })
-    stopped_means faults.NoMemory outcome s g words built same =
-        subst (λ (x : Outcome). PerformedMeans words source last out end x) (sym s) (last_part g words built same)
+    stopped_means faults.NoMemory outcome s g words asked same =
+        subst (λ (x : Outcome). PerformedMeans words source last out end x) (sym s) (last_part g words asked same)
 
     pub run_stopped : (fault : ItemFault) (outcome : Outcome) → IsStopped (number + 1) fault outcome
         → EntryMeans (Err fault) job (item_entry item) mid end → IsPerformed job source last out end outcome
     run_stopped fault outcome s g =
-        record { taken = (taken, taken_passed); kept = λ none. absurd (none reads); means = λ words built same. stopped_means fault outcome s g words built same }
+        record { taken = (taken, taken_passed); kept = λ none. absurd (none reads); means = λ words asked same. stopped_means fault outcome s g words asked same }
 
 -- no page was found
 pub run_unopened : (job : Job) (source : SourceState) (out : SinkState) → IsPerformed job source source out out NoMemory
@@ -283,7 +283,7 @@ run_unopened job source out =
     record {
       taken = ([], passed);
       kept = λ none. refl;
-      means = λ words built same. record {
+      means = λ words asked same. record {
         text = text_of source.left [];
         is_text = record { bytes = []; have_passed = passed; text_is = refl };
         front = [];

@@ -7,16 +7,16 @@ use Rattle.palp_words.specs.Words.{words_of}
 use Rattle.palp_words.specs.declared.fault.WordFault.{WordFault}
 use Rattle.palp_words.specs.declared.job.Job.{Job}
 use Rattle.palp_input.specs.Grammar.{most_bytes}
-use Rattle.palp_engine.specs.Commands.{IsBuilt, ReadsText, AreBuilt, AreUnbuilt}
-use Rattle.palp_engine.specs.Texts.{HaveReport, of_unbuilt, of_bad_words}
-use Rattle.palp_engine.specs.Runs.{HasTaken, IsText, AreUntouched, IsReported, IsReportedInPart, IsDone, IsRefusal, HasReadFault, HasWriteFault, HasEnding, TellsBadWords, TellsNotBuilt, IsComplete}
+use Rattle.palp_engine.specs.Commands.{ReadsText, GiveJob}
+use Rattle.palp_engine.specs.Texts.{HaveReport, of_bad_words}
+use Rattle.palp_engine.specs.Runs.{HasTaken, IsText, AreUntouched, IsReported, IsReportedInPart, IsDone, IsRefusal, HasReadFault, HasWriteFault, HasEnding, TellsBadWords, IsComplete}
 use Rattle.palp_engine.specs.RunSteps.{PerformedMeans, IsPerformed, OutcomeMeans, IsAnswered}
 use Rattle.palp_engine.specs.declared.outcome.Outcome.{Outcome}
-use Rattle.palp_engine.specs.declared.outcome.Outcome.TheVariants.{Done, BadWords, BadText, Refused, TextLimit, NotBuilt, ReadFault, WriteFault, NoMemory}
-use Rattle.palp_engine.proofs.SingleReports.{same_job, job_or_fault, built_or_unbuilt}
+use Rattle.palp_engine.specs.declared.outcome.Outcome.TheVariants.{Done, BadWords, BadText, Refused, TextLimit, ReadFault, WriteFault, NoMemory}
+use Rattle.palp_engine.proofs.SingleReports.{same_job, job_or_fault}
 
 -- the job's outcome is the run's
-performed_means : (words : List (List ℕ)) (source source_now : SourceState) (out out_now : SinkState) (outcome : Outcome) → AreBuilt words
+performed_means : (words : List (List ℕ)) (source source_now : SourceState) (out out_now : SinkState) (outcome : Outcome) → GiveJob words
     → PerformedMeans words source source_now out out_now outcome → OutcomeMeans words source source_now out out_now outcome
 performed_means words source source_now out out_now Done b m = (b, m)
 performed_means words source source_now out out_now (BadText fault) b m = (b, m)
@@ -26,13 +26,12 @@ performed_means words source source_now out out_now ReadFault b m = (b, m)
 performed_means words source source_now out out_now WriteFault b m = (b, m)
 performed_means words source source_now out out_now NoMemory b m = (b, m)
 performed_means words source source_now out out_now (BadWords fault) b m = absurd m
-performed_means words source source_now out out_now NotBuilt b m = absurd m
 
 pub performed_answer : (words : List (List ℕ)) (job : Job) (source source_now : SourceState) (out out_now : SinkState) (outcome : Outcome)
-    → Ok job ≡ words_of words → IsBuilt job → IsPerformed job source source_now out out_now outcome
+    → Ok job ≡ words_of words → IsPerformed job source source_now out out_now outcome
     → IsAnswered words source source_now out out_now outcome
-performed_answer words job source source_now out out_now outcome e built p =
-    let b : AreBuilt words = record { job = job; gives = sym e; built = built } in
+performed_answer words job source source_now out out_now outcome e p =
+    let b : GiveJob words = record { job = job; gives = sym e } in
     record {
       taken = p.taken;
       kept = λ other gives none. p.kept (λ reads. none (subst ReadsText (same_job words job other (sym e) gives) reads));
@@ -50,10 +49,6 @@ module _ (words : List (List ℕ)) (source : SourceState) (out : SinkState) wher
   nothing_taken : HasTaken source source
   nothing_taken = ([], record { passes = Passes-none source; bound = within; later = at_least source.faults })
 
-  pub not_built_answer : (job : Job) → Ok job ≡ words_of words → (IsBuilt job → ⊥) → IsAnswered words source source out out NotBuilt
-  not_built_answer job e other =
-      record { taken = nothing_taken; kept = λ other gives none. refl; means = (record { job = job; gives = sym e; other = other }, (refl, refl)) }
-
   pub bad_words_answer : (fault : WordFault) → Err fault ≡ words_of words → IsAnswered words source source out out (BadWords fault)
   bad_words_answer fault e = record { taken = nothing_taken; kept = λ job gives none. refl; means = (sym e, (refl, refl)) }
 
@@ -62,31 +57,19 @@ module _ (words : List (List ℕ)) (source source_now : SourceState) (out out_no
   abbrev Means : Outcome → Type 0
   Means outcome = OutcomeMeans words source source_now out out_now outcome
 
-  built_bad_words : {Z : Type 0} (fault : WordFault) → AreBuilt words → words_of words ≡ Err fault → Z
-  built_bad_words fault b e = job_or_fault words b.job fault b.gives e
+  given_bad_words : {Z : Type 0} (fault : WordFault) → GiveJob words → words_of words ≡ Err fault → Z
+  given_bad_words fault b e = job_or_fault words b.job fault b.gives e
 
   bad_words : (outcome : Outcome) → Means outcome → (fault : WordFault) → words_of words ≡ Err fault
       → (outcome ≡ BadWords fault) × AreUntouched source source_now out out_now
   bad_words (BadWords told) m fault e = (let d = sym m.0 ∙ e in cc, m.1)
-  bad_words NotBuilt m fault e = job_or_fault words m.0.job fault m.0.gives e
-  bad_words Done m fault e = built_bad_words fault m.0 e
-  bad_words (BadText told) m fault e = built_bad_words fault m.0 e
-  bad_words (Refused item cause) m fault e = built_bad_words fault m.0 e
-  bad_words TextLimit m fault e = built_bad_words fault m.0 e
-  bad_words ReadFault m fault e = built_bad_words fault m.0 e
-  bad_words WriteFault m fault e = built_bad_words fault m.0 e
-  bad_words NoMemory m fault e = built_bad_words fault m.0 e
-
-  not_built : (outcome : Outcome) → Means outcome → AreUnbuilt words → (outcome ≡ NotBuilt) × AreUntouched source source_now out out_now
-  not_built (BadWords told) m u = job_or_fault words u.job told u.gives m.0
-  not_built NotBuilt m u = (refl, m.1)
-  not_built Done m u = built_or_unbuilt words m.0 u
-  not_built (BadText told) m u = built_or_unbuilt words m.0 u
-  not_built (Refused item cause) m u = built_or_unbuilt words m.0 u
-  not_built TextLimit m u = built_or_unbuilt words m.0 u
-  not_built ReadFault m u = built_or_unbuilt words m.0 u
-  not_built WriteFault m u = built_or_unbuilt words m.0 u
-  not_built NoMemory m u = built_or_unbuilt words m.0 u
+  bad_words Done m fault e = given_bad_words fault m.0 e
+  bad_words (BadText told) m fault e = given_bad_words fault m.0 e
+  bad_words (Refused item cause) m fault e = given_bad_words fault m.0 e
+  bad_words TextLimit m fault e = given_bad_words fault m.0 e
+  bad_words ReadFault m fault e = given_bad_words fault m.0 e
+  bad_words WriteFault m fault e = given_bad_words fault m.0 e
+  bad_words NoMemory m fault e = given_bad_words fault m.0 e
 
   module _ (outcome : Outcome) (answer : IsAnswered words source source_now out out_now outcome) where
     at : (other : Outcome) → outcome ≡ other → Means other
@@ -96,12 +79,6 @@ module _ (words : List (List ℕ)) (source source_now : SourceState) (out out_no
     tells_bad_words = record {
       exactly = λ fault. (λ e. (at (BadWords fault) e).0, λ e. (bad_words outcome answer.means fault e).0);
       untouched = λ fault e. (bad_words outcome answer.means fault e).1;
-    }
-
-    pub tells_not_built : TellsNotBuilt words outcome source source_now out out_now
-    tells_not_built = record {
-      exactly = (λ e. (at NotBuilt e).0, λ u. (not_built outcome answer.means u).0);
-      untouched = λ u. (not_built outcome answer.means u).1;
     }
 
     pub is_done : outcome ≡ Done → IsDone words source source_now out out_now
@@ -125,7 +102,6 @@ module _ (words : List (List ℕ)) (source source_now : SourceState) (out out_no
   refusal_of TextLimit m r = m.1
   refusal_of Done m r = absurd r
   refusal_of (BadWords fault) m r = absurd r
-  refusal_of NotBuilt m r = absurd r
   refusal_of ReadFault m r = absurd r
   refusal_of WriteFault m r = absurd r
   refusal_of NoMemory m r = absurd r
@@ -153,7 +129,6 @@ module _ (words : List (List ℕ)) (source source_now : SourceState) (out out_no
   complete (Refused item cause) taken m s o = inl (ends (Refused item cause) m.1)
   complete TextLimit taken m s o = inl (ends TextLimit m.1)
   complete (BadWords fault) taken m s o = inl (ending_of (BadWords fault) taken (λ text. of_bad_words m.0))
-  complete NotBuilt taken m s o = inl (ending_of NotBuilt taken (λ text. of_unbuilt m.0))
   complete ReadFault taken m s o = absurd (s m.1.rose)
   complete WriteFault taken m s o = absurd (o m.1.rose)
   complete NoMemory taken m s o = inr refl
@@ -171,7 +146,6 @@ module _ (words : List (List ℕ)) (source source_now : SourceState) (out out_no
   later_of (Refused item cause) m = m.1.gives.later
   later_of TextLimit m = m.1.gives.later
   later_of (BadWords fault) m = stays m.1
-  later_of NotBuilt m = stays m.1
   later_of ReadFault m = m.1.gives.later
   later_of WriteFault m = m.1.in_part.gives.later
   later_of NoMemory m = m.1.gives.later

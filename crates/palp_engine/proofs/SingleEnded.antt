@@ -53,10 +53,10 @@ same_items bytes items others a b =
 pub one_ended_report : OneEndedReport
 one_ended_report words bytes report other a b =
     let moved = subst (λ (j : Job). IsListReport (Says j) 1 0 (map TextItem b.items) other None)
-    (same_job words b.built.job a.built.job b.built.gives a.built.gives) b.is_report in
+    (same_job words b.asked.job a.asked.job b.asked.gives a.asked.gives) b.is_report in
     let same = same_items bytes a.items b.items a.are_ended b.are_ended in
-    (reports.one_report (Says a.built.job) (says_one a.built.job) 1 0 (map TextItem a.items) report other None None a.is_report
-    (subst (λ (xs : List Listed). IsListReport (Says a.built.job) 1 0 (map TextItem xs) other None) (sym same) moved)).0
+    (reports.one_report (Says a.asked.job) (says_one a.asked.job) 1 0 (map TextItem a.items) report other None None a.is_report
+    (subst (λ (xs : List Listed). IsListReport (Says a.asked.job) 1 0 (map TextItem xs) other None) (sym same) moved)).0
 
 -- a job that reads a text reports on its items
 text_entries : (job : Job) (bytes : List ℕ) → ReadsText job
@@ -68,7 +68,7 @@ text_entries (Sweep words) bytes r = absurd r
 
 pub ended_reports_are_fronts : EndedReportsAreFronts
 ended_reports_are_fronts words bytes report a =
-    let front = passing.fewer_items (Says a.built.job) 1 0 (map TextItem a.items) (map TextItem a.are_ended.others) report None a.is_report in
+    let front = passing.fewer_items (Says a.asked.job) 1 0 (map TextItem a.items) (map TextItem a.are_ended.others) report None a.is_report in
     let entries = ap (map TextItem) a.are_ended.all_items ∙ map-append TextItem a.items a.are_ended.others in
-    front_of_entries a.built (read_text bytes).ending (text_entries a.built.job bytes a.reads)
-    (subst (λ (xs : List Entry). IsListFront (Says a.built.job) 0 xs report) (sym entries) front)
+    front_of_entries a.asked (read_text bytes).ending (text_entries a.asked.job bytes a.reads)
+    (subst (λ (xs : List Entry). IsListFront (Says a.asked.job) 0 xs report) (sym entries) front)

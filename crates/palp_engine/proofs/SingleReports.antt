@@ -15,8 +15,8 @@ use Rattle.palp_input.specs.Grammar.{Listed, TextEnd}
 use Rattle.palp_engine.specs.Entries.{Entry, TextItem, OfList, AreRangeEntries, AreEntries}
 use Rattle.weight_lists.proofs.Single.{one_list_of_entries_lem, one_cws_step_lem, one_sweep_step_lem}
 use Rattle.nef_report.proofs.SingleSteps.{one_listing_step}
-use Rattle.palp_engine.specs.Commands.{BlocksSay, printed, whole, unwanted, refused, Says, IsBuilt, AreBuilt, AreUnbuilt}
-use Rattle.palp_engine.specs.Texts.{outcome_with, HaveReport, of_entries, of_unbuilt, of_bad_words, IsFront, no_front, front_of_entries}
+use Rattle.palp_engine.specs.Commands.{BlocksSay, printed, whole, unwanted, refused, Says, GiveJob}
+use Rattle.palp_engine.specs.Texts.{outcome_with, HaveReport, of_entries, of_bad_words, IsFront, no_front, front_of_entries}
 use Rattle.palp_engine.specs.Laws.{OneListOfEntries, OneList, OneReport, FrontsAreFronts, EmptyFront}
 use Rattle.palp_engine.specs.declared.outcome.Outcome.{Outcome}
 use Rattle.palp_engine.specs.declared.outcome.Outcome.TheVariants.{BadWords}
@@ -39,7 +39,7 @@ says_one_piece flags item _ _ _ whole whole = refl
 pub says_one : (job : Job) → SaysOne (Says job)
 says_one (Poly flags) (TextItem item) k step other a b = says_one_piece flags item k step other a b
 says_one (Poly flags) (OfList entry) k step other a b = absurd a
-says_one (Nef words) (TextItem item) k step other a b = one_listing_step words.codim item k step other a.1 b.1
+says_one (Nef words) (TextItem item) k step other a b = one_listing_step words item k step other a b
 says_one (Nef words) (OfList entry) k step other a b = absurd a
 says_one (Cws words) (TextItem item) k step other a b = absurd a
 says_one (Cws words) (OfList entry) k step other a b = one_cws_step_lem words.reflexive_only entry k step other a b
@@ -75,21 +75,18 @@ module _ (words : List (List ℕ)) where
   pub job_or_fault : {Z : Type 0} (job : Job) (fault : WordFault) → words_of words ≡ Ok job → words_of words ≡ Err fault → Z
   job_or_fault job fault e f = absurd (let d = sym e ∙ f in cc)
 
-  pub built_or_unbuilt : {Z : Type 0} → AreBuilt words → AreUnbuilt words → Z
-  built_or_unbuilt b u = absurd (u.other (subst IsBuilt (same_job b.job u.job b.gives u.gives) b.built))
-
   same_fault : (fault other : WordFault) → words_of words ≡ Err fault → words_of words ≡ Err other → fault ≡ other
   same_fault fault other e f = let d = sym e ∙ f in cc
 
 module _ (words : List (List ℕ)) (text : List ℕ) where
   -- words give one job, which reports on one list of entries
-  same_entries : (b c : AreBuilt words) (entries others : List Entry) (ending another : TextEnd) → AreEntries b.job text entries ending
+  same_entries : (b c : GiveJob words) (entries others : List Entry) (ending another : TextEnd) → AreEntries b.job text entries ending
       → AreEntries c.job text others another → (entries ≡ others) × (ending ≡ another)
   same_entries b c entries others ending another e f = one_list_of_entries b.job text entries others ending another e
       (subst (λ (j : Job). AreEntries j text others another) (same_job words c.job b.job c.gives b.gives) f)
 
   -- what is said of the same entries under one job is said under the other
-  moved_report : (b c : AreBuilt words) (entries others : List Entry) (report : List (List ℕ)) (stop : Option (Stop Refusal))
+  moved_report : (b c : GiveJob words) (entries others : List Entry) (report : List (List ℕ)) (stop : Option (Stop Refusal))
       → entries ≡ others → IsListReport (Says c.job) 1 0 others report stop → IsListReport (Says b.job) 1 0 entries report stop
   moved_report b c entries others report stop e r = subst (λ (xs : List Entry). IsListReport (Says b.job) 1 0 xs report stop) (sym e)
       (subst (λ (j : Job). IsListReport (Says j) 1 0 others report stop) (same_job words c.job b.job c.gives b.gives) r)
@@ -102,13 +99,8 @@ module _ (words : List (List ℕ)) (text : List ℕ) where
       let same = same_entries b c xs ys x y e f in
       let one = reports.one_report (Says b.job) (says_one b.job) 1 0 xs p q s t r (moved_report b c xs ys q t same.0 u) in
       (one.0, ap (λ (z : TextEnd). outcome_with s z) same.1 ∙ ap (λ (z : Option (Stop Refusal)). outcome_with z y) one.1)
-  one_report_of _ _ _ _ (of_entries b _ _ r) (of_unbuilt u) = built_or_unbuilt words b u
   one_report_of _ _ _ _ (of_entries b _ _ r) (of_bad_words {fault = f} e) = job_or_fault words b.job f b.gives e
-  one_report_of _ _ _ _ (of_unbuilt u) (of_entries b _ _ r) = built_or_unbuilt words b u
-  one_report_of _ _ _ _ (of_unbuilt u) (of_unbuilt v) = (refl, refl)
-  one_report_of _ _ _ _ (of_unbuilt u) (of_bad_words {fault = f} e) = job_or_fault words u.job f u.gives e
   one_report_of _ _ _ _ (of_bad_words {fault = f} e) (of_entries b _ _ r) = job_or_fault words b.job f b.gives e
-  one_report_of _ _ _ _ (of_bad_words {fault = f} e) (of_unbuilt u) = job_or_fault words u.job f u.gives e
   one_report_of _ _ _ _ (of_bad_words {fault = f} e) (of_bad_words {fault = g} d) = (refl, ap BadWords (same_fault words f g e d))
 
   fronts_of : (front report : List (List ℕ)) (outcome : Outcome) → IsFront words text front → HaveReport words text report outcome
@@ -118,7 +110,6 @@ module _ (words : List (List ℕ)) (text : List ℕ) where
       (of_entries {entries = ys} {report = q} {stop = t} c y g u) =
       reports.fronts_are_fronts (Says b.job) (says_one b.job) 0 1 xs f q t i
       (moved_report b c xs ys q t (same_entries b c xs ys x y e g).0 u)
-  fronts_of _ _ _ (front_of_entries b _ _ i) (of_unbuilt u) = built_or_unbuilt words b u
   fronts_of _ _ _ (front_of_entries b _ _ i) (of_bad_words {fault = f} e) = job_or_fault words b.job f b.gives e
 
   empty_of : (front report : List (List ℕ)) (outcome : Outcome) → report ≡ [] → IsFront words text front
@@ -129,7 +120,6 @@ module _ (words : List (List ℕ)) (text : List ℕ) where
       (of_entries {entries = ys} {report = q} {stop = t} c y g u) =
       reports.empty_front (Says b.job) (says_one b.job) 0 1 xs f q t n i
       (moved_report b c xs ys q t (same_entries b c xs ys x y e g).0 u)
-  empty_of _ _ _ n (front_of_entries b _ _ i) (of_unbuilt u) = built_or_unbuilt words b u
   empty_of _ _ _ n (front_of_entries b _ _ i) (of_bad_words {fault = f} e) = job_or_fault words b.job f b.gives e
 
 pub one_report : OneReport

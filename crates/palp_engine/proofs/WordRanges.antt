@@ -1,5 +1,5 @@
--- The words of `cws` and `sweep` give ranges that can be searched.
-use Rattle.std.proofs.Common.{◌≡◌, ℕ, suc, ◌+◌, ◌≤◌, Bool, true, false, cond, List, [], ◌∷◌, length, drop, Option, Some, None, Result, Ok, Err, refl, sym, ap, ◌∙◌, subst, arith}
+-- The words of `cws` and `sweep` give ranges that can be searched, and those of `nef` one part or more.
+use Rattle.std.proofs.Common.{◌≡◌, ℕ, suc, ◌+◌, ◌≤◌, Bool, true, false, cond, List, [], ◌∷◌, ◌++◌, length, drop, Option, Some, None, Result, Ok, Err, refl, sym, ap, ◌∙◌, subst, arith}
 use Rattle.std.specs.Prelude.{◌&&◌, ◌==◌, nat_le}
 use Rattle.std.specs.Str.{bytes_eq}
 use lib.Chars.{codes}
@@ -9,7 +9,7 @@ use Rattle.std.proofs.lemmas.List.{drop-drop}
 use Rattle.std.specs.List.{list_any}
 use Rattle.palp_words.specs.Numbers.{is_number_word, number_of, number_fault, largest}
 use Rattle.palp_words.specs.Places.{first_number_fault, first_number, first_size_fault, first_size}
-use Rattle.palp_words.specs.Words.{first_fault, answer_of, command_answer, poly_fault, poly_flags, nef_fault, nef_words, cws_fault, cws_job, cws_job_of, sweep_fault, sweep_job, is_option, is_size_word, without_options, highest, words_of}
+use Rattle.palp_words.specs.Words.{kind_or, fault_or, is_codim_word, codim_of, first_fault, answer_of, command_answer, poly_fault, poly_flags, nef_fault, nef_words, cws_fault, cws_job, cws_job_of, sweep_fault, sweep_job, is_option, is_size_word, without_options, highest, words_of}
 use Rattle.palp_words.specs.declared.fault.WordKind.{WordKind}
 use Rattle.palp_words.specs.declared.fault.WordKind.TheVariants.{Command, Range, Number, Flag}
 use Rattle.palp_words.specs.declared.fault.WordFault.{WordFault}
@@ -17,10 +17,13 @@ use Rattle.palp_words.specs.declared.job.Job.{Job}
 use Rattle.palp_words.specs.declared.job.Job.TheVariants.{Poly, Nef, Cws, Sweep}
 use Rattle.palp_words.specs.declared.job.CwsWords.{CwsWords}
 use Rattle.palp_words.specs.declared.job.SweepWords.{SweepWords}
+use Rattle.palp_words.specs.declared.job.NefWords.{NefWords}
 use Rattle.palp_words.proofs.Options.{skips, stops}
 use Rattle.palp_words.proofs.Sweeping.{sweep_answer, dim_wrong, low_wrong, high_wrong}
 use Rattle.palp_words.proofs.SizeWords.{StartsAt, cws_answer, cws_size_wrong, cws_low_wrong, cws_high_wrong}
 use Rattle.weight_lists.specs.Answers.{IsRange}
+use Rattle.palp_engine.specs.Commands.{HasSomeParts}
+use Rattle.palp_engine.specs.RunSteps.{IsGiven}
 
 -- a word that is right in the place of a number
 record IsWithin (low high : ℕ) (number : ℕ) : Type 0 where
@@ -169,6 +172,38 @@ cws_by words w start s e =
 cws_range : (words : List (List ℕ)) (w : CwsWords) → cws_answer words ≡ Ok (Cws w) → IsRange w.dim w.low w.high
 cws_range words w e = let s = starts words in cws_by words w s.0 s.1 e
 
+-- `nef`
+fault_is_none : (o : Option WordKind) (index : ℕ) (other : Option WordFault) → fault_or o index other ≡ None → (o ≡ None) × (other ≡ None)
+fault_is_none (Some kind) index other e = absurd (cc)
+fault_is_none None index other e = (refl, e)
+
+kind_is_none : (o other : Option WordKind) → kind_or o other ≡ None → o ≡ None
+kind_is_none (Some kind) other e = cc
+kind_is_none None other e = refl
+
+some_parts_by : (b : Bool) (word : List ℕ) (conflict letters : Option WordKind) (rest : ℕ)
+    → cond b (kind_or (number_fault 1 3 (drop 2 word)) conflict) letters ≡ None → 1 ≤ rest → 1 ≤ cond b (number_of (drop 2 word)) rest
+some_parts_by true word conflict letters rest e h = (number_within 1 3 (drop 2 word) (kind_is_none (number_fault 1 3 (drop 2 word)) conflict e)).least
+some_parts_by false word conflict letters rest e h = h
+
+some_parts : (before words : List (List ℕ)) → first_fault nef_fault before words ≡ None → 1 ≤ codim_of words
+some_parts before [] e = omega arith
+some_parts before (word ∷ words) e =
+    let both = fault_is_none (nef_fault before word) (length before + 2) (first_fault nef_fault (before ++ word ∷ []) words) e in
+    some_parts_by (is_codim_word word) word _ _ (codim_of words) both.0 (some_parts (before ++ word ∷ []) words both.1)
+
+none_wrong : (o : Option WordFault) (j : Option Job) (next : ℕ) (job : Job) → answer_of o j next ≡ Ok job → o ≡ None
+none_wrong (Some fault) j next job e = cc
+none_wrong None j next job e = refl
+
+nef_range : (words : List (List ℕ)) (w : NefWords) → command_answer nef_fault (Some (Nef (nef_words words))) words ≡ Ok (Nef w) → 1 ≤ w.codim
+nef_range words w e = subst (λ (v : NefWords). 1 ≤ v.codim)
+    (same (nef_words words) (job_of (first_fault nef_fault [] words) (Some (Nef (nef_words words))) (length words + 2) (Nef w) e))
+    (some_parts [] words (none_wrong (first_fault nef_fault [] words) (Some (Nef (nef_words words))) (length words + 2) (Nef w) e))
+  where
+    same : (v : NefWords) → Some (Nef v) ≡ Some (Nef w) → v ≡ w
+    same v e = cc
+
 -- which command a job is of
 other_job : {Z : Type 0} (fault_behind : List (List ℕ) → List ℕ → Option WordKind) (j : Option Job) (words : List (List ℕ)) (job : Job)
     → command_answer fault_behind j words ≡ Ok job → (j ≡ Some job → Z) → Z
@@ -185,6 +220,31 @@ no_cws r [] w e = absurd (cc)
 no_cws r (a ∷ []) w e = absurd (cc)
 no_cws r (a ∷ b ∷ []) w e = absurd (cc)
 no_cws r (a ∷ b ∷ c ∷ left) w e = absurd (cc)
+
+no_nef_sweep : {Z : Type 0} (words : List (List ℕ)) (w : NefWords) → sweep_job words ≡ Some (Nef w) → Z
+no_nef_sweep [] w e = absurd (cc)
+no_nef_sweep (a ∷ []) w e = absurd (cc)
+no_nef_sweep (a ∷ b ∷ []) w e = absurd (cc)
+no_nef_sweep (a ∷ b ∷ c ∷ words) w e = absurd (cc)
+
+no_nef_cws : {Z : Type 0} (b : Bool) (left : List (List ℕ)) (w : NefWords) → cws_job_of b left ≡ Some (Nef w) → Z
+no_nef_cws r [] w e = absurd (cc)
+no_nef_cws r (a ∷ []) w e = absurd (cc)
+no_nef_cws r (a ∷ b ∷ []) w e = absurd (cc)
+no_nef_cws r (a ∷ b ∷ c ∷ left) w e = absurd (cc)
+
+nef_from : (a b c d : Bool) (further : List (List ℕ)) (w : NefWords)
+    → cond a (command_answer poly_fault (Some (Poly (poly_flags further))) further)
+    (cond b (command_answer nef_fault (Some (Nef (nef_words further))) further)
+    (cond c (command_answer cws_fault (cws_job further) further)
+    (cond d (command_answer sweep_fault (sweep_job further) further) (Err (record { index = 1; kind = Command }))))) ≡ Ok (Nef w)
+    → 1 ≤ w.codim
+nef_from true b c d further w e = other_job poly_fault (Some (Poly (poly_flags further))) further (Nef w) e (λ j. absurd (cc))
+nef_from false true c d further w e = nef_range further w e
+nef_from false false true d further w e =
+    other_job cws_fault (cws_job further) further (Nef w) e (λ j. no_nef_cws (list_any is_option further) (without_options further) w j)
+nef_from false false false true further w e = other_job sweep_fault (sweep_job further) further (Nef w) e (λ j. no_nef_sweep further w j)
+nef_from false false false false further w e = absurd (cc)
 
 cws_from : (a b c d : Bool) (further : List (List ℕ)) (w : CwsWords)
     → cond a (command_answer poly_fault (Some (Poly (poly_flags further))) further)
@@ -222,3 +282,15 @@ pub sweep_ranges : (words : List (List ℕ)) (w : SweepWords) → words_of words
 sweep_ranges [] w e = absurd (cc)
 sweep_ranges (command ∷ further) w e = sweep_from (bytes_eq command (codes "poly")) (bytes_eq command (codes "nef"))
     (bytes_eq command (codes "cws")) (bytes_eq command (codes "sweep")) further w e
+
+pub nef_parts : (words : List (List ℕ)) (w : NefWords) → words_of words ≡ Ok (Nef w) → 1 ≤ w.codim
+nef_parts [] w e = absurd (cc)
+nef_parts (command ∷ further) w e = nef_from (bytes_eq command (codes "poly")) (bytes_eq command (codes "nef")) (bytes_eq command (codes "cws"))
+    (bytes_eq command (codes "sweep")) further w e
+
+-- a job that words give asks for one part or more, where it asks for parts
+pub given_some_parts : (job : Job) → IsGiven job → HasSomeParts job
+given_some_parts (Poly flags) g = tt
+given_some_parts (Nef words) g = nef_parts g.0 words g.1
+given_some_parts (Cws words) g = tt
+given_some_parts (Sweep words) g = tt

@@ -1,5 +1,5 @@
--- The jobs that are built, and what they say of an item. This project's own.
-use Rattle.std.specs.Prelude.{◌≡◌, ℕ, ◌≤◌, IsTrue, List, Ok}
+-- What jobs say of an item. This project's own.
+use Rattle.std.specs.Prelude.{◌≡◌, ℕ, ◌≤◌, List, Ok}
 use Rattle.lattice_core.specs.declared.faults.Refusal.{Refusal}
 use Rattle.report_theory.specs.Report.{Whole, Ends, Step, Piece, Close}
 use Rattle.palp_words.specs.Words.{words_of}
@@ -15,16 +15,12 @@ use Rattle.nef_report.specs.Partitions.{PartitionsSay}
 use Rattle.palp_engine.specs.Items.{IsItemRefused, IsPiece, IsUnwanted}
 use Rattle.palp_engine.specs.Entries.{Entry, TextItem, OfList}
 
--- the words of `nef` that are built: the partitions are listed, into one part or more
-abbrev pub ArePartWords : NefWords → Type 0
-ArePartWords words = IsTrue words.list_only × (1 ≤ words.codim)
-
--- the job is built: every one is but `nef` with other words
-abbrev pub IsBuilt : Job → Type 0
-IsBuilt (Poly flags) = Unit {0}
-IsBuilt (Nef words) = ArePartWords words
-IsBuilt (Cws words) = Unit {0}
-IsBuilt (Sweep words) = Unit {0}
+-- `nef` asks for one part or more
+abbrev pub HasSomeParts : Job → Type 0
+HasSomeParts (Poly flags) = Unit {0}
+HasSomeParts (Nef words) = 1 ≤ words.codim
+HasSomeParts (Cws words) = Unit {0}
+HasSomeParts (Sweep words) = Unit {0}
 
 -- the job reads a text, and reports of its items
 abbrev pub ReadsText : Job → Type 0
@@ -33,17 +29,10 @@ ReadsText (Nef words) = Unit {0}
 ReadsText (Cws words) = ⊥
 ReadsText (Sweep words) = ⊥
 
--- the words give a job that is built
-pub record AreBuilt (words : List (List ℕ)) : Type 0 where
+-- the words give a job
+pub record GiveJob (words : List (List ℕ)) : Type 0 where
   pub job : Job
   pub gives : words_of words ≡ Ok job
-  pub built : IsBuilt job
-
--- the words give a job, which isn't built
-pub record AreUnbuilt (words : List (List ℕ)) : Type 0 where
-  pub job : Job
-  pub gives : words_of words ≡ Ok job
-  pub other : IsBuilt job → ⊥
 
 -- `poly` says of an item its one piece and then no more, or no piece, or its refusal
 pub data BlocksSay (flags : PolyFlags) (item : Listed) : ℕ → Step Refusal → Type 0 where
@@ -62,12 +51,12 @@ abbrev pub ListSays : (ListEntry → ℕ → Step Refusal → Type 0) → Entry 
 ListSays says (TextItem item) k step = ⊥
 ListSays says (OfList entry) k step = says entry k step
 
--- What `nef` says of an entry, which is an item of a text: its nef partitions, one after another.
+-- What `nef` says of an entry, which is an item of a text: its nef partitions, one after another, as the words ask.
 abbrev pub NefSays : NefWords → Entry → ℕ → Step Refusal → Type 0
-NefSays words (TextItem item) k step = IsTrue words.list_only × PartitionsSay words.codim item k step
+NefSays words (TextItem item) k step = PartitionsSay words item k step
 NefSays words (OfList entry) k step = ⊥
 
--- What a job says of an entry: what comes next after so many of its pieces. A job that isn't built says nothing.
+-- What a job says of an entry: what comes next after so many of its pieces.
 abbrev pub Says : Job → Entry → ℕ → Step Refusal → Type 0
 Says (Poly flags) entry k step = PolySays flags entry k step
 Says (Nef words) entry k step = NefSays words entry k step

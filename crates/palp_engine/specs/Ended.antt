@@ -5,7 +5,7 @@ use Rattle.report_theory.specs.Report.{IsListReport}
 use Rattle.palp_input.specs.Pieces.{line_feed}
 use Rattle.palp_input.specs.Grammar.{Listed, read_text}
 use Rattle.palp_engine.specs.Entries.{TextItem}
-use Rattle.palp_engine.specs.Commands.{AreBuilt, ReadsText, Says}
+use Rattle.palp_engine.specs.Commands.{GiveJob, ReadsText, Says}
 
 -- the byte in front of the place is a line end
 abbrev pub HasLineEnd : List ℕ → ℕ → Type 0
@@ -25,8 +25,8 @@ pub record AreEndedItems (bytes : List ℕ) (items : List Listed) : Type 0 where
 
 -- the report of those items, in pieces; none of them is refused
 pub record IsEndedReport (words : List (List ℕ)) (bytes : List ℕ) (report : List (List ℕ)) : Type 0 where
-  pub built : AreBuilt words
-  pub reads : ReadsText built.job
+  pub asked : GiveJob words
+  pub reads : ReadsText asked.job
   pub items : List Listed
   pub are_ended : AreEndedItems bytes items
-  pub is_report : IsListReport (Says built.job) 1 0 (map TextItem items) report None
+  pub is_report : IsListReport (Says asked.job) 1 0 (map TextItem items) report None

@@ -5,7 +5,7 @@ use Rattle.palp_print.specs.Notes.{note_line}
 use Rattle.palp_print.specs.declared.notes.Note.{Note}
 use Rattle.palp_print.specs.declared.notes.Note.TheVariants as notes
 use Rattle.palp_engine.specs.declared.outcome.Outcome.{Outcome}
-use Rattle.palp_engine.specs.declared.outcome.Outcome.TheVariants.{Done, BadWords, BadText, Refused, TextLimit, NotBuilt, ReadFault, WriteFault, NoMemory}
+use Rattle.palp_engine.specs.declared.outcome.Outcome.TheVariants.{Done, BadWords, BadText, Refused, TextLimit, ReadFault, WriteFault, NoMemory}
 
 -- the note of an outcome; Done has none
 abbrev pub note_of : Outcome → Option Note
@@ -14,7 +14,6 @@ note_of (BadWords fault) = Some (notes.Words fault)
 note_of (BadText fault) = Some (notes.Text fault)
 note_of (Refused item cause) = Some (notes.Refused item cause)
 note_of TextLimit = Some notes.TextLimit
-note_of NotBuilt = Some notes.NotBuilt
 note_of ReadFault = Some notes.ReadFault
 note_of WriteFault = Some notes.WriteFault
 note_of NoMemory = Some notes.NoMemory

@@ -22,10 +22,10 @@ use Rattle.dual_pair.specs.Polytopes.{PolytopeState, IsPolytopeOf}
 use Rattle.palp_print.specs.Blocks.{AreFunctions, ArePaired}
 use Rattle.palp_engine.specs.declared.polytopes.Polytope.{Polytope}
 use Rattle.palp_engine.specs.declared.polytopes.Lattice.{Lattice}
-use Rattle.palp_engine.specs.Commands.{ReadsText, AreBuilt, AreUnbuilt}
+use Rattle.palp_engine.specs.Commands.{ReadsText, GiveJob}
 use Rattle.palp_engine.specs.Runs.{HasTaken, AreUntouched, LeavesSource, IsReported, IsReportedInPart, IsDone, HasReadFault, HasWriteFault}
 use Rattle.palp_engine.specs.declared.outcome.Outcome.{Outcome}
-use Rattle.palp_engine.specs.declared.outcome.Outcome.TheVariants.{Done, BadWords, BadText, Refused, TextLimit, NotBuilt, ReadFault, WriteFault, NoMemory}
+use Rattle.palp_engine.specs.declared.outcome.Outcome.TheVariants.{Done, BadWords, BadText, Refused, TextLimit, ReadFault, WriteFault, NoMemory}
 use Rattle.weight_lists.specs.declared.fault.ListFault.{ListFault}
 use Rattle.weight_lists.specs.declared.fault.ListFault.TheVariants as lists
 use Rattle.nef_report.specs.declared.fault.NefFault.{NefFault}
@@ -118,7 +118,7 @@ list_outcome (Err lists.NoMemory) = NoMemory
 abbrev pub IsGiven : Job → Type 0
 IsGiven job = (words : List (List ℕ)) × (words_of words ≡ Ok job)
 
--- what each outcome of words means that give a job that is built
+-- what each outcome of words means that give a job
 abbrev pub PerformedMeans : List (List ℕ) → SourceState → SourceState → SinkState → SinkState → Outcome → Type 0
 PerformedMeans words source source_now out out_now Done = IsDone words source source_now out out_now
 PerformedMeans words source source_now out out_now (BadText fault) = IsReported words source source_now out out_now (BadText fault)
@@ -134,14 +134,13 @@ PerformedMeans words source source_now out out_now other = ⊥
 pub record IsPerformed (job : Job) (source source_now : SourceState) (out out_now : SinkState) (outcome : Outcome) : Type 0 where
   pub taken : HasTaken source source_now
   pub kept : (ReadsText job → ⊥) → source_now ≡ source
-  pub means : (words : List (List ℕ)) (built : AreBuilt words) → built.job ≡ job
+  pub means : (words : List (List ℕ)) (asked : GiveJob words) → asked.job ≡ job
       → PerformedMeans words source source_now out out_now outcome
 
 -- what each outcome means
 abbrev pub OutcomeMeans : List (List ℕ) → SourceState → SourceState → SinkState → SinkState → Outcome → Type 0
 OutcomeMeans words source source_now out out_now (BadWords fault) = (words_of words ≡ Err fault) × AreUntouched source source_now out out_now
-OutcomeMeans words source source_now out out_now NotBuilt = AreUnbuilt words × AreUntouched source source_now out out_now
-OutcomeMeans words source source_now out out_now outcome = AreBuilt words × PerformedMeans words source source_now out out_now outcome
+OutcomeMeans words source source_now out out_now outcome = GiveJob words × PerformedMeans words source source_now out out_now outcome
 
 -- so many bytes passed, and the outcome means what it says
 pub record IsAnswered (words : List (List ℕ)) (source source_now : SourceState) (out out_now : SinkState) (outcome : Outcome) : Type 0 where

@@ -8,11 +8,11 @@ use Rattle.palp_words.specs.Words.{words_of}
 use Rattle.palp_words.specs.declared.fault.WordFault.{WordFault}
 use Rattle.palp_words.specs.declared.job.Job.{Job}
 use Rattle.palp_input.specs.Grammar.{most_bytes}
-use Rattle.palp_engine.specs.Commands.{AreUnbuilt, ReadsText}
+use Rattle.palp_engine.specs.Commands.{ReadsText}
 use Rattle.palp_engine.specs.Texts.{IsReport, EndsWith, IsFront}
 use Rattle.palp_engine.specs.Ended.{IsEndedReport}
 use Rattle.palp_engine.specs.declared.outcome.Outcome.{Outcome}
-use Rattle.palp_engine.specs.declared.outcome.Outcome.TheVariants.{Done, BadWords, BadText, Refused, TextLimit, NotBuilt, ReadFault, WriteFault, NoMemory}
+use Rattle.palp_engine.specs.declared.outcome.Outcome.TheVariants.{Done, BadWords, BadText, Refused, TextLimit, ReadFault, WriteFault, NoMemory}
 
 -- these bytes passed from the source, no more than a run takes, and the count of faults didn't fall
 pub record HavePassed (source source_now : SourceState) (bytes : List ℕ) : Type 0 where
@@ -65,12 +65,6 @@ pub record TellsBadWords (words : List (List ℕ)) (outcome : Outcome) (source s
   pub exactly : (fault : WordFault) → (outcome ≡ BadWords fault) ↔ (words_of words ≡ Err fault)
   pub untouched : (fault : WordFault) → words_of words ≡ Err fault → AreUntouched source source_now out out_now
 
--- the outcome tells that the job isn't built exactly where the words give such a one, and then the streams are as they were
-pub record TellsNotBuilt (words : List (List ℕ)) (outcome : Outcome) (source source_now : SourceState) (out out_now : SinkState)
-    : Type 0 where
-  pub exactly : (outcome ≡ NotBuilt) ↔ AreUnbuilt words
-  pub untouched : AreUnbuilt words → AreUntouched source source_now out out_now
-
 -- the whole report was appended, and where the job reads a text the source was read to its end
 pub record IsDone (words : List (List ℕ)) (source source_now : SourceState) (out out_now : SinkState) : Type 0 where
   pub reported : IsReported words source source_now out out_now Done
@@ -83,7 +77,6 @@ IsRefusal (Refused item cause) = Unit {0}
 IsRefusal TextLimit = Unit {0}
 IsRefusal Done = ⊥
 IsRefusal (BadWords fault) = ⊥
-IsRefusal NotBuilt = ⊥
 IsRefusal ReadFault = ⊥
 IsRefusal WriteFault = ⊥
 IsRefusal NoMemory = ⊥

@@ -6,9 +6,9 @@ use Rattle.palp_words.specs.Words.{words_of}
 use Rattle.palp_words.specs.declared.fault.WordFault.{WordFault}
 use Rattle.palp_input.specs.Grammar.{TextEnd, End, FaultEnd, TooLongEnd}
 use Rattle.palp_engine.specs.Entries.{Entry, AreEntries}
-use Rattle.palp_engine.specs.Commands.{AreBuilt, AreUnbuilt, Says}
+use Rattle.palp_engine.specs.Commands.{GiveJob, Says}
 use Rattle.palp_engine.specs.declared.outcome.Outcome.{Outcome}
-use Rattle.palp_engine.specs.declared.outcome.Outcome.TheVariants.{Done, BadWords, BadText, Refused, TextLimit, NotBuilt}
+use Rattle.palp_engine.specs.declared.outcome.Outcome.TheVariants.{Done, BadWords, BadText, Refused, TextLimit}
 
 -- the outcome where no entry is refused
 abbrev pub outcome_of : TextEnd → Outcome
@@ -22,12 +22,11 @@ outcome_with (Some stop) ending = Refused stop.number stop.cause
 outcome_with None ending = outcome_of ending
 
 -- Words and a text have this report, in pieces, which ends with this outcome. It is the report of the entries of the job that the words give,
--- as the job says it. Where the words have a fault, or give a job that isn't built, it is empty.
+-- as the job says it. Where the words have a fault, it is empty.
 pub data HaveReport (words : List (List ℕ)) (text : List ℕ) : List (List ℕ) → Outcome → Type 0 where
-  of_entries : {entries : List Entry} {report : List (List ℕ)} {stop : Option (Stop Refusal)} (built : AreBuilt words) (ending : TextEnd)
-      → AreEntries built.job text entries ending → IsListReport (Says built.job) 1 0 entries report stop
+  of_entries : {entries : List Entry} {report : List (List ℕ)} {stop : Option (Stop Refusal)} (asked : GiveJob words) (ending : TextEnd)
+      → AreEntries asked.job text entries ending → IsListReport (Says asked.job) 1 0 entries report stop
       → HaveReport words text report (outcome_with stop ending)
-  of_unbuilt : AreUnbuilt words → HaveReport words text [] NotBuilt
   of_bad_words : {fault : WordFault} → words_of words ≡ Err fault → HaveReport words text [] (BadWords fault)
 
 -- the report of words and a text, in pieces
@@ -41,5 +40,5 @@ EndsWith words text outcome = (report : List (List ℕ)) × HaveReport words tex
 -- a front of the report of words and a text: some pieces, and of the last one perhaps a front
 pub data IsFront (words : List (List ℕ)) (text : List ℕ) : List (List ℕ) → Type 0 where
   no_front : IsFront words text []
-  front_of_entries : {entries : List Entry} {front : List (List ℕ)} (built : AreBuilt words) (ending : TextEnd)
-      → AreEntries built.job text entries ending → IsListFront (Says built.job) 0 entries front → IsFront words text front
+  front_of_entries : {entries : List Entry} {front : List (List ℕ)} (asked : GiveJob words) (ending : TextEnd)
+      → AreEntries asked.job text entries ending → IsListFront (Says asked.job) 0 entries front → IsFront words text front

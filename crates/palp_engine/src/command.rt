@@ -1,11 +1,11 @@
 //! The top call.
 
-ghost use Rattle.std.specs.Prelude.{◌≡◌, ◌<◌, ◌≤◌, ◌^◌, ◌↔◌, IsTrue, map, length};
+ghost use Rattle.std.specs.Prelude.{◌≡◌, ◌<◌, ◌≤◌, ◌^◌, map, length};
 ghost use Rattle.std.specs.String.{string_bytes};
-ghost use Rattle.palp_engine.specs.Commands.{IsBuilt, ReadsText};
+ghost use Rattle.palp_engine.specs.Commands.{HasSomeParts, ReadsText};
 ghost use Rattle.palp_engine.specs.Notes.{note_of as outcome_note, IsNoted};
 ghost use Rattle.palp_engine.specs.RunSteps.{IsAnswered, IsPerformed, IsStopped, IsGiven, outcome_unread};
-ghost use Rattle.palp_engine.specs.Runs.{HasTaken, LeavesSource, TellsBadWords, TellsNotBuilt, IsDone, IsRefusal, IsReported, HasReadFault, HasWriteFault, IsReportedInPart, IsComplete};
+ghost use Rattle.palp_engine.specs.Runs.{HasTaken, LeavesSource, TellsBadWords, IsDone, IsRefusal, IsReported, HasReadFault, HasWriteFault, IsReportedInPart, IsComplete};
 ghost use Rattle.palp_engine.specs.declared.outcome.Outcome.TheVariants.{Done, ReadFault, WriteFault, NoMemory};
 
 use crate::Outcome;
@@ -18,18 +18,6 @@ use palp_print::{Note, note_line};
 use palp_words::{Job, read_words};
 use std::alloc::Global;
 use weight_lists::{list_systems, sum_up};
-
-/// Whether the job is built: every one is but `nef` without `p`.
-fn is_built(job: &Job) -> bool
-    ensures { IsTrue result ↔ IsBuilt job.now }
-{
-    match job {
-        Job::Poly(_) => true,
-        Job::Nef(words) => words.list_only && words.codim >= 1,
-        Job::Cws(_) => true,
-        Job::Sweep(_) => true,
-    }
-}
 
 /// The same cause again. It takes no memory.
 fn same_cause(cause: &Refusal) -> Refusal
@@ -51,7 +39,6 @@ fn note_of(outcome: &Outcome) -> Option<Note>
         Outcome::BadText(fault) => Some(Note::Text(*fault)),
         Outcome::Refused { item, cause } => Some(Note::Refused(*item, same_cause(cause))),
         Outcome::TextLimit => Some(Note::TextLimit),
-        Outcome::NotBuilt => Some(Note::NotBuilt),
         Outcome::ReadFault => Some(Note::ReadFault),
         Outcome::WriteFault => Some(Note::WriteFault),
         Outcome::NoMemory => Some(Note::NoMemory),
@@ -86,7 +73,7 @@ fn stopped(number: u64, fault: ItemFault) -> Outcome
 
 /// Reports the items of the source, each before the next one is read, up to the first that is refused.
 fn report<S: Source, O: Sink>(alloc: Global, job: &Job, src: &mut S, out: &mut O) -> Outcome
-    requires built { IsBuilt job.now }
+    requires parts { HasSomeParts job.now }
     requires reads { ReadsText job.now }
     ensures { IsPerformed job.now (S.state src.old) (S.state src.new) (O.state out.old) (O.state out.new) result }
 {
@@ -110,7 +97,6 @@ fn report<S: Source, O: Sink>(alloc: Global, job: &Job, src: &mut S, out: &mut O
 
 /// Does the job that some words give.
 fn perform<S: Source, O: Sink>(alloc: Global, job: &Job, src: &mut S, out: &mut O) -> Outcome
-    requires built { IsBuilt job.now }
     requires given { IsGiven job.now }
     ensures { IsPerformed job.now (S.state src.old) (S.state src.new) (O.state out.old) (O.state out.new) result }
 {
@@ -128,8 +114,7 @@ fn answer<S: Source, O: Sink>(alloc: Global, words: &[String], src: &mut S, out:
     ensures { IsAnswered (map string_bytes words.now) (S.state src.old) (S.state src.new) (O.state out.old) (O.state out.new) result }
 {
     match read_words(words) {
-        Ok(job) if is_built(&job) => perform(alloc, &job, src, out),
-        Ok(_) => Outcome::NotBuilt,
+        Ok(job) => perform(alloc, &job, src, out),
         Err(fault) => Outcome::BadWords(fault),
     }
 }
@@ -142,8 +127,9 @@ fn answer<S: Source, O: Sink>(alloc: Global, words: &[String], src: &mut S, out:
 /// `M:points vertices F:facets`. `p` are the lattice points, `v` the vertices, `e` the facets, `m` the pairing of facets and vertices, `d` the
 /// points of the dual of a reflexive polytope, `i` the numbers of faces and which vertices lie on which facets, and `a` all of these but `i`. With
 /// `D` the dual of a reflexive polytope takes its place in all of this, and with `r` nothing is printed of a polytope that isn't reflexive.
-/// `nef` with `p` reads the items, too, and gives of each one the line of its numbers, and of a reflexive polytope each of its nef partitions
-/// (alg-geom/9509009), as it is found, and the line that tells how many there are. `Done` comes where the whole report was given. `Refused` tells
+/// `nef` reads the items, too, and gives of each one the line of its numbers, and of a reflexive polytope each of its nef partitions
+/// (alg-geom/9509009), as it is found, and the line that tells how many there are. Without `p` a partition stands with its stringy Hodge numbers of one
+/// line and its Euler number, and with `H` with all Hodge numbers below. `Done` comes where the whole report was given. `Refused` tells
 /// the first item that exceeds a limit (docs/limits.md) or is flat, `BadText` the first fault of the text, and `TextLimit` a text of more than
 /// 67,108,864 bytes; the items before are reported.
 ///
@@ -153,9 +139,9 @@ fn answer<S: Source, O: Sink>(alloc: Global, words: &[String], src: &mut S, out:
 /// points of all polytopes and of the duals of the reflexive ones. With `-r` and in `sweep` a system is refused by the first limit that it
 /// exceeds of those that stand for them, and its number is its place in the list of all systems of the range.
 ///
-/// `nef` without `p` is `NotBuilt`, and words that give no job are `BadWords`; nothing is read then. `ReadFault` and `WriteFault` come only where the count of
-/// faults of the source, or of `out`, rose in this call; `NoMemory` may come at any step of a job. At most 67,108,865 bytes are taken. Where the
-/// report is empty nothing is given to `out`. For each outcome but `Done` the outcome's note line is given to `notes`, or a front of it where the count
+/// Words that give no job are `BadWords`; nothing is read then. `ReadFault` and `WriteFault` come only where the count of faults of the source, or of
+/// `out`, rose in this call; `NoMemory` may come at any step of a job. At most 67,108,865 bytes are taken. Where the report is empty nothing is given
+/// to `out`. For each outcome but `Done` the outcome's note line is given to `notes`, or a front of it where the count
 /// of faults of `notes` rose, which changes nothing else.
 ///
 /// The text is what the source had left. Of a source that doesn't tell that, as a real stream, it is the bytes that passed: the clauses say
@@ -172,10 +158,8 @@ pub fn run<S: Source, O: Sink, N: Sink>(
     // Some bytes passed from the source, at most 67,108,865.
     ensures taken { HasTaken (S.state src.old) (S.state src.new) }
 
-    // `BadWords` comes exactly where the words have that fault, and `NotBuilt` exactly where they give a job that isn't built; nothing was
-    // read or given then.
+    // `BadWords` comes exactly where the words have that fault; nothing was read or given then.
     ensures bad_words { TellsBadWords (map string_bytes words.now) result (S.state src.old) (S.state src.new) (O.state out.old) (O.state out.new) }
-    ensures not_built { TellsNotBuilt (map string_bytes words.now) result (S.state src.old) (S.state src.new) (O.state out.old) (O.state out.new) }
 
     // A job that reads no text, as `cws` and `sweep`, leaves the source as it was.
     ensures source_kept { LeavesSource (map string_bytes words.now) (S.state src.old) (S.state src.new) }

@@ -19,8 +19,6 @@ pub enum Outcome {
     Refused { item: u64, cause: Refusal },
     /// The text has more than 67,108,864 bytes, and the items that end within that many were reported.
     TextLimit,
-    /// The command isn't built yet.
-    NotBuilt,
     /// The source failed.
     ReadFault,
     /// The sink of the report failed.
@@ -33,7 +31,7 @@ impl Outcome {
     ghost use Rattle.palp_engine.specs.Statuses.{status};
 
     /// The exit status: 0 for `Done`, 1 for `NoMemory`, 2 for `BadWords`, 3 for `BadText`, 4 for `Refused`, 5 for `TextLimit`, 6 for
-    /// `ReadFault`, 7 for `WriteFault` and 8 for `NotBuilt`.
+    /// `ReadFault` and 7 for `WriteFault`.
     pub fn code(&self) -> u8
         ensures { result ≡ status self.now }
     {
@@ -46,7 +44,6 @@ impl Outcome {
             Outcome::TextLimit => 5,
             Outcome::ReadFault => 6,
             Outcome::WriteFault => 7,
-            Outcome::NotBuilt => 8,
         }
     }
 }

@@ -3,7 +3,7 @@
 ghost use Rattle.std.specs.Prelude.{IfOk};
 ghost use Rattle.palp_input.specs.Grammar.{listed};
 ghost use Rattle.palp_input.specs.Items.{IsItem};
-ghost use Rattle.palp_engine.specs.Commands.{IsBuilt, ReadsText};
+ghost use Rattle.palp_engine.specs.Commands.{HasSomeParts, ReadsText};
 
 use crate::{ItemFault, Outcome, Session, report_item, run};
 use lattice_core::Refusal;
@@ -15,7 +15,7 @@ use std::test::Fail;
 
 /// `poly` with these letters of `g`, `p`, `v`, `e` and `m`, and with `n`.
 fn letters(general: bool, points: bool, vertices: bool, equations: bool, matrix: bool) -> Job
-    ensures built { IsBuilt result }
+    ensures parts { HasSomeParts result }
     ensures reads { ReadsText result }
 {
     Job::Poly(PolyFlags {

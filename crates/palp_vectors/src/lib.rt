@@ -12,6 +12,8 @@ mod faces;
 #[cfg(test)]
 mod lists;
 #[cfg(test)]
+mod numbers;
+#[cfg(test)]
 mod partitions;
 #[cfg(test)]
 mod runs;

@@ -13,16 +13,6 @@ fn wrong_words(words: &'static [&'static str], note: &'static str) -> Case {
     }
 }
 
-fn not_built(words: &'static [&'static str]) -> Case {
-    Case {
-        words,
-        text: TRIANGLE,
-        report: "",
-        note: "palp: not built\n",
-        status: 8,
-    }
-}
-
 #[test]
 fn wrong_words_are_told(rt: HostRuntime) -> Result<(), Fail> {
     let cases = [
@@ -35,7 +25,6 @@ fn wrong_words_are_told(rt: HostRuntime) -> Result<(), Fail> {
         wrong_words(&["class"], "palp: word 1: Command\n"),
         wrong_words(&["nef", "-cx"], "palp: word 2: Number\n"),
         wrong_words(&["poly", "-nD"], "palp: word 2: Conflict\n"),
-        not_built(&["nef"]),
         Case {
             words: &["poly", "-ng", "-n"],
             ..done(TRIANGLE, "M:11 3 F:3\n")

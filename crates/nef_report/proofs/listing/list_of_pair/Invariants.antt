@@ -8,7 +8,7 @@ use Rattle.nef_report.proofs.listing.list_of_pair.Given as goal
 abbrev pub invariant-loop-count : goal.invariant-loop-count
 invariant-loop-count g l = record {
   lists : l.search.lists ≡ lists_of l.fn.pair;
-  codim : l.search.codim ≡ l.fn.codim;
+  codim : l.search.codim ≡ l.fn.words.codim;
   given : l.search.given ≡ l.count;
-  so_far : ItemSoFar (PartitionsSay l.fn.codim) (listed l.fn.item) (l.count + 1) (g.O.Sink.state l.fn.out) (g.O.Sink.state l.out);
+  so_far : ItemSoFar (PartitionsSay l.fn.words) (listed l.fn.item) (l.count + 1) (g.O.Sink.state l.fn.out) (g.O.Sink.state l.out);
 }

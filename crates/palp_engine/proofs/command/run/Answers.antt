@@ -1,6 +1,6 @@
 use Rattle.std.proofs.Common.{map}
 use Rattle.std.specs.String.{string_bytes}
-use Rattle.palp_engine.proofs.RunMeanings.{tells_bad_words, tells_not_built, is_done, is_refusal, is_read_fault, is_write_fault, is_no_memory, is_complete, source_later, out_later}
+use Rattle.palp_engine.proofs.RunMeanings.{tells_bad_words, is_done, is_refusal, is_read_fault, is_write_fault, is_no_memory, is_complete, source_later, out_later}
 use Rattle.palp_engine.proofs.command.run.Goals as goal
 
 pub returns-in-Some-clause-taken : goal.returns-in-Some-clause-taken
@@ -9,10 +9,6 @@ returns-in-Some-clause-taken g c = c.answer-outcome.ensures.taken
 pub returns-in-Some-clause-bad_words : goal.returns-in-Some-clause-bad_words
 returns-in-Some-clause-bad_words g c =
     tells_bad_words (map (λ w. string_bytes w) c.args.words.now) _ _ _ _ c.answer-outcome.result c.answer-outcome.ensures
-
-pub returns-in-Some-clause-not_built : goal.returns-in-Some-clause-not_built
-returns-in-Some-clause-not_built g c =
-    tells_not_built (map (λ w. string_bytes w) c.args.words.now) _ _ _ _ c.answer-outcome.result c.answer-outcome.ensures
 
 pub returns-in-Some-clause-source_kept : goal.returns-in-Some-clause-source_kept
 returns-in-Some-clause-source_kept g c = c.answer-outcome.ensures.kept

@@ -1,0 +1,90 @@
+//! Nef partitions with their stringy Hodge numbers.
+
+use crate::runs::{Case, are_answered, asked};
+use std::test::Fail;
+
+const QUARTIC: &str = "4 1 1 1 1\n";
+
+const SIMPLEX: &str =
+    "7 6\n1 0 0 0 0 0\n0 1 0 0 0 0\n0 0 1 0 0 0\n0 0 0 1 0 0\n0 0 0 0 1 0\n0 0 0 0 0 1\n-1 -1 -1 -1 -1 -1\n";
+
+/// A refusal of the first item, behind what is reported of it.
+fn refused(
+    words: &'static [&'static str],
+    text: &'static str,
+    report: &'static str,
+    note: &'static str,
+) -> Case {
+    Case {
+        note,
+        status: 4,
+        ..asked(words, text, report)
+    }
+}
+
+#[test]
+fn partitions_of_a_quartic_have_their_numbers(rt: HostRuntime) -> Result<(), Fail> {
+    let cases = [
+        asked(
+            &["nef"],
+            QUARTIC,
+            "4 1 1 1 1 M:35 4 N:5 4 codim=2\n\
+P:1 V:0 0 0 1 H:1 [0]\nP:2 V:0 0 1 0 H:1 [0]\nP:3 V:0 0 1 1 H:1 [0]\nP:4 V:0 1 0 0 H:1 [0]\n\
+P:5 V:0 1 0 1 H:1 [0]\nP:6 V:0 1 1 0 H:1 [0]\nP:7 V:0 1 1 1 H:1 [0]\n#nef:7\n",
+        ),
+        asked(
+            &["nef", "-H"],
+            QUARTIC,
+            "4 1 1 1 1 M:35 4 N:5 4 codim=2\n\
+P:1 V:0 0 0 1 H:1 [0]\nh0: 1 1\nh1: 1 1\nP:2 V:0 0 1 0 H:1 [0]\nh0: 1 1\nh1: 1 1\n\
+P:3 V:0 0 1 1 H:1 [0]\nh0: 1 1\nh1: 1 1\nP:4 V:0 1 0 0 H:1 [0]\nh0: 1 1\nh1: 1 1\n\
+P:5 V:0 1 0 1 H:1 [0]\nh0: 1 1\nh1: 1 1\nP:6 V:0 1 1 0 H:1 [0]\nh0: 1 1\nh1: 1 1\n\
+P:7 V:0 1 1 1 H:1 [0]\nh0: 1 1\nh1: 1 1\n#nef:7\n",
+        ),
+        asked(
+            &["nef", "-c1"],
+            QUARTIC,
+            "4 1 1 1 1 M:35 4 N:5 4 codim=1\nP:1 V:0 0 0 0 H:20 [24]\n#nef:1\n",
+        ),
+    ];
+    assert!(rt; are_answered(&rt, &cases)?);
+    Ok(())
+}
+
+#[test]
+fn the_quintic_has_all_its_numbers(rt: HostRuntime) -> Result<(), Fail> {
+    let cases = [asked(
+        &["nef", "-c1", "-H"],
+        "5 1 1 1 1 1\n",
+        "5 1 1 1 1 1 M:126 5 N:6 5 codim=1\n\
+P:1 V:0 0 0 0 0 H:1,101 [-200]\nh0: 1 0 0 1\nh1: 0 1 101 0\nh2: 0 101 1 0\nh3: 1 0 0 1\n#nef:1\n",
+    )];
+    assert!(rt; are_answered(&rt, &cases)?);
+    Ok(())
+}
+
+#[test]
+fn large_dilates_and_cones_are_refused(rt: HostRuntime) -> Result<(), Fail> {
+    let cases = [
+        refused(
+            &["nef", "-c1"],
+            "7 1 1 1 1 1 1 1\n",
+            "",
+            "palp: item 1: limit ScanM: 4194305\n",
+        ),
+        refused(
+            &["nef", "-c1"],
+            SIMPLEX,
+            "",
+            "palp: item 1: limit ScanN: 4194305\n",
+        ),
+        refused(
+            &["nef", "-c1"],
+            "24 1 1 1 1 8 12\n",
+            "24 1 1 1 1 8 12 M:4551 6 N:11 6 codim=1\n",
+            "palp: item 1: limit ConeM: 2097153\n",
+        ),
+    ];
+    assert!(rt; are_answered(&rt, &cases)?);
+    Ok(())
+}
