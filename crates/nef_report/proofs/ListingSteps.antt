@@ -19,7 +19,8 @@ use Rattle.dual_pair.specs.Polytopes.{PolytopeState}
 use Rattle.dual_pair.specs.Pairs.{PairState}
 use Rattle.nef_parts.specs.Lists.{lists_of}
 use Rattle.nef_parts.specs.Partitions.{IsNefAt, HasNefPartitions}
-use Rattle.nef_report.specs.Items.{IsOther, HasPair, IsKindRefusal, ArePartsRefused, IsListed, IsItemRefusal}
+use Rattle.item_polytopes.specs.Kinds.{IsOther, HasPair, IsKindRefusal}
+use Rattle.nef_report.specs.Items.{ArePartsRefused, IsListed, IsItemRefusal}
 use Rattle.nef_report.specs.Partitions.{body_text, heading_text, IsPartPiece, IsPartRefusal, listed, not_numbered, too_many, counted, behind_count}
 use Rattle.nef_report.specs.Partitions.{PartitionsSay, refused, body, behind_body, heading, behind_heading}
 use Rattle.nef_report.specs.Answers.{ListingMeans, LineMeans, IsStop}

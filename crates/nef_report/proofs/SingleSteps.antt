@@ -16,13 +16,15 @@ use Rattle.nef_parts.proofs.FirstPartitions.{one_partition_at_lem, fewer_than_al
 use Rattle.cayley.specs.Limits.{IsWithinRank}
 use Rattle.nef_numbers.specs.Laws.{TellTheSame}
 use Rattle.nef_numbers.proofs.SingleNumbers.{numbers_are_single_lem, one_refusal_lem, numbers_or_refusal_lem}
-use Rattle.nef_report.specs.Items.{AreFewParts, IsOther, IsListed}
+use Rattle.item_polytopes.specs.Kinds.{IsOther}
+use Rattle.item_polytopes.proofs.SingleKinds.{one_polytope, one_pair}
+use Rattle.nef_report.specs.Items.{AreFewParts, IsListed}
 use Rattle.nef_report.specs.Partitions.{body_text, heading_text, numbers_text, TellsPartition, IsPartitionRefused, IsPartPiece, IsPartRefusal}
 use Rattle.nef_report.specs.Partitions.{PartsSay, listed, not_numbered, too_many, counted, behind_count}
 use Rattle.nef_report.specs.Partitions.{PartitionsSay, refused, body, behind_body, heading, behind_heading}
 use Rattle.nef_report.specs.Laws.{OneListingStep}
 use Rattle.nef_report.proofs.SingleParts.{few_are_within}
-use Rattle.nef_report.proofs.SingleListings.{one_polytope, one_pair, one_item_refusal, listed_or_refused, other_or_refused, other_or_listed}
+use Rattle.nef_report.proofs.SingleListings.{one_item_refusal, listed_or_refused, other_or_refused, other_or_listed}
 
 -- a partition has one piece, or one refusal
 module _ (words : NefWords) (pair : PairState) (is : IsPair pair) (within : AreFewParts words.list_only pair words.codim) where

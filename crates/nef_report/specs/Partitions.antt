@@ -5,8 +5,8 @@ use Rattle.lattice_core.specs.declared.faults.Refusal.TheVariants.{Limit}
 use Rattle.lattice_core.specs.declared.faults.LimitName.TheVariants.{Partitions}
 use Rattle.report_theory.specs.Report.{Whole, Ends, Step, Piece, Close}
 use Rattle.palp_words.specs.declared.job.NefWords.{NefWords}
-use Rattle.palp_input.specs.Grammar.{Listed, ListedWeights, ListedPoints}
-use Rattle.palp_print.specs.Lists.{echo, body_line, nef_line, closing}
+use Rattle.palp_input.specs.Grammar.{Listed}
+use Rattle.palp_print.specs.Lists.{item_echo, body_line, nef_line, closing}
 use Rattle.palp_print.specs.Partitions.{partition, partition_with, diamond}
 use Rattle.palp_print.specs.declared.titles.CountTitle.TheVariants.{Nef}
 use Rattle.dual_pair.specs.Polytopes.{PolytopeState}
@@ -15,13 +15,9 @@ use Rattle.stringy.specs.Numbers.{EState, first_numbers, hodge_lines, euler_of}
 use Rattle.nef_parts.specs.Lists.{lists_of}
 use Rattle.nef_parts.specs.Partitions.{IsNefAt, HasNefPartitions}
 use Rattle.nef_numbers.specs.Numbers.{HasNumbers, IsNumbersRefusal}
-use Rattle.nef_report.specs.Items.{IsOther, IsListed, IsItemRefusal}
+use Rattle.item_polytopes.specs.Kinds.{IsOther}
+use Rattle.nef_report.specs.Items.{IsListed, IsItemRefusal}
 use Rattle.nef_report.specs.declared.listing.TheConstants.{MOST_PARTITIONS}
-
--- what stands in front of an item's first line: the numbers of a weight line
-abbrev pub item_echo : Listed → List ℕ
-item_echo (ListedWeights systems) = echo systems
-item_echo (ListedPoints lines columns entries) = []
 
 -- the line of an item whose polytope isn't reflexive
 abbrev pub body_text : Listed → PolytopeState → List ℕ

@@ -1,5 +1,5 @@
 //! What `nef` says of an item: that its polytope isn't reflexive, or its nef partitions, one after another, with their stringy numbers or without. It
-//! stands on `item_points` and `dual_pair` for the item's polytope and its dual, on `cayley` for the limits on the number of parts, on `nef_parts`
+//! stands on `item_polytopes` and `dual_pair` for the item's polytope and its dual, on `cayley` for the limits on the number of parts, on `nef_parts`
 //! for the partitions, on `nef_numbers` and `stringy` for their numbers, on `report_theory` for what a report is, on `palp_words` for what is asked, on
 //! `palp_print` for lines and on `palp_io` for sinks.
 //!
@@ -9,7 +9,6 @@
 #![tactic(auto)]
 
 mod fault;
-mod items;
 mod laws;
 mod lines;
 mod listing;

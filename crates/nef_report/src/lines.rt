@@ -1,14 +1,12 @@
 //! The lines of a report, given to a sink one by one.
-ghost use Rattle.std.specs.Prelude.{◌≡◌, ◌++◌, OnOk};
 ghost use Rattle.palp_input.specs.Grammar.{listed};
 ghost use Rattle.palp_print.specs.Lists.{closing};
 ghost use Rattle.palp_print.specs.declared.titles.CountTitle.TheVariants as CountTitle;
-ghost use Rattle.nef_report.specs.Partitions.{item_echo, body_text, heading_text};
+ghost use Rattle.nef_report.specs.Partitions.{body_text, heading_text};
 ghost use Rattle.nef_report.specs.Answers.{LineMeans};
 
 use crate::NefFault;
 use dual_pair::{DualPair, Polytope};
-use lattice_core::NoMemory;
 use palp_input::Item;
 use palp_io::{Gave, Sink};
 use palp_print::{CountTitle, Page};
@@ -20,16 +18,6 @@ pub(crate) fn give<O: Sink>(page: &Page, out: &mut O) -> Result<(), NefFault>
     match out.give(page.bytes()) {
         Gave::All => Ok(()),
         Gave::Failed => Err(NefFault::Write),
-    }
-}
-
-/// Appends what stands in front of an item's first line.
-fn put_echo(page: &mut Page, item: &Item) -> Result<(), NoMemory>
-    ensures { OnOk result (page.new ≡ page.old ++ item_echo (listed item.now)) }
-{
-    match item {
-        Item::Weights(systems) => page.echo(systems),
-        Item::Points(_) => Ok(()),
     }
 }
 
@@ -46,7 +34,7 @@ pub(crate) fn give_body<O: Sink>(
     let vertices = polytope.vertices().len() as u64;
     let facets = polytope.facets().len() as u64;
     page.clear();
-    put_echo(page, item)?;
+    page.item_echo(item)?;
     page.body_line(points, vertices, facets)?;
     give(page, out)
 }
@@ -66,7 +54,7 @@ pub(crate) fn give_heading<O: Sink>(
     let n_points = pair.n().points().len() as u64;
     let n_vertices = pair.n().vertices().len() as u64;
     page.clear();
-    put_echo(page, item)?;
+    page.item_echo(item)?;
     page.nef_line(m_points, m_vertices, n_points, n_vertices, codim)?;
     give(page, out)
 }

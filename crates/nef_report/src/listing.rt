@@ -3,15 +3,16 @@ ghost use Rattle.std.specs.Prelude.{◌≤◌, MatchResult};
 ghost use Rattle.lattice_core.specs.Stops.{Stops};
 ghost use Rattle.palp_input.specs.Grammar.{listed};
 ghost use Rattle.palp_input.specs.Items.{IsItem};
-ghost use Rattle.nef_report.specs.Items.{HasPair, AreFewParts, ArePartsRefused, IsListed};
+ghost use Rattle.item_polytopes.specs.Kinds.{HasPair};
+ghost use Rattle.nef_report.specs.Items.{AreFewParts, ArePartsRefused, IsListed};
 ghost use Rattle.nef_report.specs.Answers.{ListingMeans};
 
 use crate::NefFault;
-use crate::items::kind_of;
 use crate::lines::{give, give_body, give_count, give_heading};
 use crate::pieces::write_piece;
 use cayley::{rank_limits, scan_limits};
 use dual_pair::{DualPair, Kind};
+use item_polytopes::kind_of_item;
 use lattice_core::{Fault, LimitName, Refusal};
 use nef_numbers::ConeRooms;
 use nef_parts::{Masks, NefSearch};
@@ -112,7 +113,7 @@ pub fn list_partitions<O: Sink>(
     requires item { IsItem (listed item.now) }
     ensures { ListingMeans result words.now (listed item.now) (O.state out.old) (O.state out.new) }
 {
-    match kind_of(alloc, item)? {
+    match kind_of_item(alloc, item)? {
         Kind::Other(polytope) => give_body(page, item, &polytope, out),
         Kind::Reflexive(pair) => list_within(alloc, page, rooms, words, item, &pair, out),
     }

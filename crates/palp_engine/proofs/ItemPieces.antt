@@ -29,11 +29,12 @@ use Rattle.dual_pair.proofs.VertexLists.{of_vertices, reflexive}
 use Rattle.batyrev.specs.Lines.{IsHodgeLine}
 use Rattle.batyrev.specs.declared.line.HodgeLine.{HodgeLine}
 use Rattle.batyrev.specs.declared.line.HodgeLine.TheVariants as lines
-use Rattle.palp_print.specs.Lists.{body_line}
+use Rattle.palp_print.specs.Lists.{item_echo, body_line}
 use Rattle.palp_print.specs.Blocks.{ArePaired, columns, pairing, incidence}
 use Rattle.palp_print.specs.declared.titles.Title.TheVariants.{Vertices, Points}
 use Rattle.palp_engine.specs.Shown.{ask_dual, only_reflexive, Shown, Alone, Paired, shown_polytope, IsShown, HasNumbers, AskNumbers, AskFaces}
-use Rattle.palp_engine.specs.Items.{HasPolytope, IsItemRefused, IsPiece, IsUnwanted, no_asked_dual, many_faces, have_ones, item_echo, facet_block}
+use Rattle.item_polytopes.specs.Kinds.{HasPolytope}
+use Rattle.palp_engine.specs.Items.{IsItemRefused, IsPiece, IsUnwanted, no_asked_dual, many_faces, have_ones, facet_block}
 use Rattle.palp_engine.specs.Items.{asked, blocks}
 use Rattle.palp_engine.specs.Laws.{OnesTellReflexive}
 use Rattle.palp_engine.specs.RunSteps.{ArePrinted, IsKept}

@@ -21,8 +21,10 @@ use Rattle.palp_print.specs.Blocks.{columns, pairing, incidence}
 use Rattle.palp_print.specs.declared.titles.Title.TheVariants.{Vertices, Points}
 use Rattle.palp_engine.specs.Reports.{HaveFewPoints, IsRefused}
 use Rattle.palp_engine.specs.Shown.{Shown, Alone, Paired, shown_polytope, IsShown, AskFaces, AreNumbersOf}
-use Rattle.palp_engine.specs.Items.{IsHullRefusal, HasPolytope, HasNoAskedDual, HasManyFaces, IsAskedRefusal, no_asked_dual, many_faces, IsItemRefused}
-use Rattle.palp_engine.specs.Items.{IsAccepted, item_echo, facet_block, asked, general_line, dual_columns, blocks}
+use Rattle.item_polytopes.specs.Kinds.{HasPolytope}
+use Rattle.palp_engine.specs.Items.{IsHullRefusal, HasNoAskedDual, HasManyFaces, IsAskedRefusal, no_asked_dual, many_faces, IsItemRefused}
+use Rattle.palp_print.specs.Lists.{item_echo}
+use Rattle.palp_engine.specs.Items.{IsAccepted, facet_block, asked, general_line, dual_columns, blocks}
 use Rattle.palp_engine.specs.Laws.{OnePiece, OneItemRefusal, PieceOrRefusal, PieceOrNone, NoneOrRefusal}
 use Rattle.palp_engine.proofs.SingleAnswers.{one_refusal, polytope_or_refusal}
 use Rattle.palp_engine.proofs.SingleShown.{one_line, one_no_dual, one_shown, shown_or_no_dual}

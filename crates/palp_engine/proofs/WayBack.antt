@@ -10,7 +10,9 @@ use Rattle.dual_pair.specs.Pairs.{PairState, IsPair}
 use Rattle.dual_pair.specs.Faces.{on_facets}
 use Rattle.batyrev.specs.declared.line.HodgeLine.{HodgeLine}
 use Rattle.palp_engine.specs.Shown.{ask_dual, Shown, Alone, Paired, shown_polytope, own_side, IsShown, AreNumbersOf}
-use Rattle.palp_engine.specs.Items.{HasPolytope, IsPiece, item_echo, facet_block, asked, general_line, dual_columns, list_blocks, blocks}
+use Rattle.item_polytopes.specs.Kinds.{HasPolytope}
+use Rattle.palp_print.specs.Lists.{item_echo}
+use Rattle.palp_engine.specs.Items.{IsPiece, facet_block, asked, general_line, dual_columns, list_blocks, blocks}
 use Rattle.palp_print.specs.Blocks.{columns, pairing, incidence}
 use Rattle.palp_print.specs.declared.titles.Title.TheVariants.{Vertices, Points}
 use Rattle.palp_engine.specs.Laws.{with_dual, WayBack}

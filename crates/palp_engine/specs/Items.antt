@@ -8,16 +8,17 @@ use Rattle.lattice_core.specs.declared.faults.Refusal.{Refusal}
 use Rattle.lattice_core.specs.declared.faults.Refusal.TheVariants.{Limit}
 use Rattle.lattice_core.specs.declared.faults.LimitName.TheVariants.{Faces}
 use Rattle.palp_words.specs.declared.job.PolyFlags.{PolyFlags}
-use Rattle.palp_input.specs.Grammar.{Listed, ListedWeights, ListedPoints}
+use Rattle.palp_input.specs.Grammar.{Listed}
 use Rattle.item_points.specs.Points.{HasPoints, IsPointsRefusal}
 use Rattle.face_closing.specs.Tables.{HasMoreFaces}
 use Rattle.face_closing.specs.declared.limits.TheConstants.{MOST_FACES}
 use Rattle.face_poset.specs.Counts.{AreFaceCounts}
-use Rattle.dual_pair.specs.Polytopes.{PolytopeState, IsPolytopeOf}
+use Rattle.dual_pair.specs.Polytopes.{PolytopeState}
 use Rattle.dual_pair.specs.Pairs.{IsReflexivePolytope, HasNoDual}
 use Rattle.dual_pair.specs.Faces.{on_facets}
+use Rattle.item_polytopes.specs.Kinds.{HasPolytope}
 use Rattle.batyrev.specs.declared.line.HodgeLine.{HodgeLine}
-use Rattle.palp_print.specs.Lists.{echo, body_line, pair_line}
+use Rattle.palp_print.specs.Lists.{item_echo, body_line, pair_line}
 use Rattle.palp_print.specs.Blocks.{columns, dual_rows, equations, pairing, incidence}
 use Rattle.palp_print.specs.declared.titles.Title.TheVariants.{Vertices, Points, DualPoints}
 use Rattle.palp_engine.specs.Reports.{IsRefused}
@@ -28,12 +29,6 @@ pub record IsHullRefusal (item : Listed) (cause : Refusal) : Type 0 where
   pub points : List (List ℤ)
   pub has_points : HasPoints item points
   pub refused : IsRefused (dimension_of points) points cause
-
--- the item has points that aren't refused, and this is their polytope
-pub record HasPolytope (item : Listed) (p : PolytopeState) : Type 0 where
-  pub points : List (List ℤ)
-  pub has_points : HasPoints item points
-  pub is_polytope : IsPolytopeOf points p
 
 -- the polytope is reflexive and its dual is asked, but exceeds a limit
 pub record HasNoAskedDual (flags : PolyFlags) (item : Listed) (cause : Refusal) : Type 0 where
@@ -60,11 +55,6 @@ pub data IsAskedRefusal (flags : PolyFlags) (item : Listed) : Refusal → Type 0
 -- why an item is refused: it has no points within the limits, or these are refused, or what the letters ask of them is
 abbrev pub IsItemRefused : PolyFlags → Listed → Refusal → Type 0
 IsItemRefused flags item cause = IsPointsRefusal item cause ⊎ (IsHullRefusal item cause ⊎ IsAskedRefusal flags item cause)
-
--- what stands in front of an item's general line: the numbers of a weight line
-abbrev pub item_echo : Listed → List ℕ
-item_echo (ListedWeights systems) = echo systems
-item_echo (ListedPoints lines columns entries) = []
 
 -- the constants of all facets are 1: so the polytope is reflexive (alg-geom/9310003)
 abbrev pub have_ones : List Affine → Bool

@@ -10,7 +10,9 @@ use Rattle.palp_input.specs.Grammar.{Listed, TextEnd}
 use Rattle.dual_pair.specs.Polytopes.{PolytopeState, IsPolytope}
 use Rattle.dual_pair.specs.Pairs.{IsReflexivePolytope, PairState, IsPair}
 use Rattle.palp_engine.specs.Reports.{HaveFewPoints, IsRefused}
-use Rattle.palp_engine.specs.Items.{HasPolytope, IsItemRefused, IsPiece, IsUnwanted, item_echo, have_ones}
+use Rattle.item_polytopes.specs.Kinds.{HasPolytope}
+use Rattle.palp_print.specs.Lists.{item_echo}
+use Rattle.palp_engine.specs.Items.{IsItemRefused, IsPiece, IsUnwanted, have_ones}
 use Rattle.palp_engine.specs.Entries.{Entry, AreEntries}
 use Rattle.palp_engine.specs.Commands.{Says}
 use Rattle.palp_engine.specs.Texts.{HaveReport, IsReport, IsFront}

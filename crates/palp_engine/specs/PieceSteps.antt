@@ -11,11 +11,11 @@ use Rattle.dual_pair.specs.Polytopes.{PolytopeState}
 use Rattle.dual_pair.specs.Pairs.{PairState, IsPair}
 use Rattle.dual_pair.specs.Faces.{on_facets}
 use Rattle.batyrev.specs.declared.line.HodgeLine.{HodgeLine}
-use Rattle.palp_print.specs.Lists.{body_line}
+use Rattle.palp_print.specs.Lists.{item_echo, body_line}
 use Rattle.palp_print.specs.Blocks.{columns, pairing, incidence}
 use Rattle.palp_print.specs.declared.titles.Title.TheVariants.{Vertices, Points}
 use Rattle.palp_engine.specs.Shown.{ask_dual, Paired, own_side, AskFaces, AreNumbersOf}
-use Rattle.palp_engine.specs.Items.{item_echo, facet_block, asked, blocks, IsPiece, IsUnwanted}
+use Rattle.palp_engine.specs.Items.{facet_block, asked, blocks, IsPiece, IsUnwanted}
 use Rattle.palp_engine.specs.FaceSteps.{HaveFewFaces, IsFaceLimit}
 use Rattle.palp_engine.specs.declared.polytopes.Polytope.{Polytope}
 

@@ -3,11 +3,11 @@
 ghost use Rattle.std.specs.Prelude.{◌≡◌, ◌++◌, IsTrue, length, OnOk};
 ghost use Rattle.lattice_core.specs.PointLists.{ArePoints};
 ghost use Rattle.palp_input.specs.Grammar.{listed};
-ghost use Rattle.palp_print.specs.Lists.{body_line, pair_line};
+ghost use Rattle.palp_print.specs.Lists.{item_echo, body_line, pair_line};
 ghost use Rattle.palp_print.specs.Blocks.{AreFunctions, ArePaired, columns, pairing, incidence};
 ghost use Rattle.palp_print.specs.declared.titles.Title.TheVariants as Title;
 ghost use Rattle.palp_engine.specs.Shown.{Paired};
-ghost use Rattle.palp_engine.specs.Items.{item_echo, have_ones, facet_block, asked, list_blocks, blocks};
+ghost use Rattle.palp_engine.specs.Items.{have_ones, facet_block, asked, list_blocks, blocks};
 ghost use Rattle.palp_engine.specs.RunSteps.{ArePrinted};
 ghost use Rattle.palp_engine.specs.PieceSteps.{blocks_of};
 
@@ -19,16 +19,6 @@ use palp_input::Item;
 use palp_print::{Page, Title};
 use palp_words::PolyFlags;
 
-/// Appends what stands in front of an item's general line.
-fn put_echo(page: &mut Page, item: &Item) -> Result<(), NoMemory>
-    ensures { OnOk result (page.new ≡ page.old ++ item_echo (listed item.now)) }
-{
-    match item {
-        Item::Weights(systems) => page.echo(systems),
-        Item::Points(_) => Ok(()),
-    }
-}
-
 /// Appends the general line, where it is asked.
 fn put_general(page: &mut Page, on: bool, item: &Item, polytope: &Polytope) -> Result<(), NoMemory>
     ensures { OnOk result (page.new ≡ page.old ++ asked on (item_echo (listed item.now)
@@ -37,7 +27,7 @@ fn put_general(page: &mut Page, on: bool, item: &Item, polytope: &Polytope) -> R
     if !on {
         return Ok(());
     }
-    put_echo(page, item)?;
+    page.item_echo(item)?;
     page.body_line(
         polytope.count,
         polytope.vertices.len() as u64,
@@ -150,7 +140,7 @@ fn put_pair_line(
     if !on {
         return Ok(());
     }
-    put_echo(page, item)?;
+    page.item_echo(item)?;
     page.pair_line(
         pair.m().points().len() as u64,
         pair.m().vertices().len() as u64,

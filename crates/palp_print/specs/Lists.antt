@@ -3,6 +3,7 @@
 use Rattle.std.specs.Prelude.{ℕ, List, [], ◌++◌, codes}
 use Rattle.std.specs.Fmt.{decimal, signed_decimal}
 use Rattle.lattice_core.specs.Weights.{Weighted}
+use Rattle.palp_input.specs.Grammar.{Listed, ListedWeights, ListedPoints}
 use Rattle.palp_input.specs.Systems.{numbers_in}
 use Rattle.batyrev.specs.declared.line.HodgeLine.{HodgeLine}
 use Rattle.batyrev.specs.declared.line.HodgeLine.TheVariants as numbers
@@ -13,6 +14,11 @@ use Rattle.palp_print.specs.declared.titles.CountTitle.TheVariants.{Nef, Ip, Ref
 -- what stands in front of a weight item's first line: the numbers of its weight line, each with a space behind it
 abbrev pub echo : List Weighted → List ℕ
 echo systems = before_spaces decimal (numbers_in systems)
+
+-- the same of any item: nothing stands in front of a matrix's first line
+abbrev pub item_echo : Listed → List ℕ
+item_echo (ListedWeights systems) = echo systems
+item_echo (ListedPoints lines columns entries) = []
 
 -- the line that tells the numbers of lattice points, vertices and facets
 abbrev pub body_line : ℕ → ℕ → ℕ → List ℕ

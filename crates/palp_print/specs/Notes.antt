@@ -11,7 +11,7 @@ use Rattle.palp_input.specs.declared.fault.TextKind.{TextKind}
 use Rattle.palp_input.specs.declared.fault.TextKind.TheVariants as texts
 use Rattle.palp_print.specs.Texts.{function_text}
 use Rattle.palp_print.specs.declared.notes.Note.{Note}
-use Rattle.palp_print.specs.declared.notes.Note.TheVariants.{Words, Text, Refused, TextLimit, NotBuilt, ReadFault, WriteFault, NoMemory}
+use Rattle.palp_print.specs.declared.notes.Note.TheVariants.{Words, Text, Refused, TextLimit, ReadFault, WriteFault, NoMemory}
 
 -- the name of a limit
 abbrev pub limit_name : LimitName → List ℕ
@@ -74,7 +74,6 @@ note_line (Text fault) = codes "palp: line " ++ (decimal fault.line ++ (codes " 
     ++ (text_kind_name fault.kind ++ codes "\n")))))
 note_line (Refused item cause) = codes "palp: item " ++ (decimal item ++ (codes ": " ++ (refusal_text cause ++ codes "\n")))
 note_line TextLimit = codes "palp: text limit\n"
-note_line NotBuilt = codes "palp: not built\n"
 note_line ReadFault = codes "palp: read fault\n"
 note_line WriteFault = codes "palp: write fault\n"
 note_line NoMemory = codes "palp: no memory\n"

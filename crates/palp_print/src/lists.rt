@@ -2,7 +2,8 @@
 
 ghost use Rattle.std.specs.Prelude.{◌≡◌, ◌+◌, ◌≤◌, ◌++◌, length, OnOk};
 ghost use Rattle.lattice_core.specs.Weights.{weighted, weighted_all};
-ghost use Rattle.palp_print.specs.Lists.{echo as echo_of, body_line as body_line_of, nef_line as nef_line_of};
+ghost use Rattle.palp_input.specs.Grammar.{listed};
+ghost use Rattle.palp_print.specs.Lists.{echo as echo_of, item_echo as item_echo_of, body_line as body_line_of, nef_line as nef_line_of};
 ghost use Rattle.palp_print.specs.Lists.{numbers_text, pair_line as pair_line_of};
 ghost use Rattle.batyrev.specs.declared.line.HodgeLine.TheVariants as HodgeLine;
 ghost use Rattle.arrayvec.specs.ArrayVec.{array_vec_len};
@@ -16,6 +17,7 @@ use crate::rows::{put_before_spaces, put_behind, put_number as put_wide};
 use crate::titles::{CountTitle, count_words};
 use batyrev::HodgeLine;
 use lattice_core::{NoMemory, WeightSystem};
+use palp_input::Item;
 
 /// Appends the numbers of weight systems, each with a space behind it.
 fn put_systems(text: &mut Vec<u8>, systems: &[WeightSystem]) -> Result<(), NoMemory>
@@ -178,6 +180,16 @@ impl Page {
         put_systems(&mut self.draft, systems)?;
         self.text.extend_from_slice(&self.draft)?;
         Ok(())
+    }
+
+    /// Appends what stands in front of an item's first line: of a weight line its numbers, and of a matrix nothing.
+    pub fn item_echo(&mut self, item: &Item) -> Result<(), NoMemory>
+        ensures { Appends (item_echo_of (listed item.now)) self.old self.new result }
+    {
+        match item {
+            Item::Weights(systems) => self.echo(systems),
+            Item::Points(_) => Ok(()),
+        }
     }
 
     /// Appends the line of the numbers of lattice points, vertices and facets, `M:points vertices F:facets`.

@@ -22,8 +22,6 @@ pub enum Note {
     Refused(u64, Refusal),
     /// The text is too long.
     TextLimit,
-    /// The command isn't built yet.
-    NotBuilt,
     /// The source failed.
     ReadFault,
     /// The sink of the report failed.
@@ -166,7 +164,6 @@ pub fn note_line(note: &Note) -> ArrayVec<u8, 512>
         Note::Text(fault) => text_note(fault),
         Note::Refused(item, cause) => refusal_note(*item, cause),
         Note::TextLimit => fixed(b"palp: text limit\n"),
-        Note::NotBuilt => fixed(b"palp: not built\n"),
         Note::ReadFault => fixed(b"palp: read fault\n"),
         Note::WriteFault => fixed(b"palp: write fault\n"),
         Note::NoMemory => fixed(b"palp: no memory\n"),

@@ -66,7 +66,7 @@ pub(crate) fn failing_note(note: u64) -> Failing {
     }
 }
 
-/// The words of the command that is built.
+/// The words that ask one line of every item.
 pub(crate) const PLAIN: &[&str] = &["poly", "-n"];
 
 /// The matrix of a triangle with 11 lattice points.

@@ -2,7 +2,7 @@ use Rattle.std.proofs.Common.{subst}
 use Rattle.std.proofs.lemmas.Result.{err_from_is_err_and}
 use Rattle.palp_input.specs.Grammar.{listed}
 use Rattle.dual_pair.specs.declared.pair.Kind.{Kind}
-use Rattle.nef_report.specs.Items.{IsKind}
+use Rattle.item_polytopes.specs.Kinds.{IsKind}
 use Rattle.nef_report.proofs.ListingSteps.{kind_stopped, body_told}
 use Rattle.nef_report.proofs.listing.list_partitions.Goals as goal
 

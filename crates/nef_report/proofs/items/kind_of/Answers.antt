@@ -1,8 +1,0 @@
-use Rattle.std.proofs.lemmas.Result.{MatchResult-from_both}
-use Rattle.palp_input.specs.Grammar.{listed}
-use Rattle.nef_report.proofs.ItemSteps.{kind_of_polytope}
-use Rattle.nef_report.proofs.items.kind_of.Goals as goal
-
-pub returns : goal.returns
-returns c = kind_of_polytope (listed c.args.item.now) c.in_ok-polytope.polytope c.in_ok-polytope.ensures c.of.result
-    (MatchResult-from_both c.of.result _ _ c.of.ensures.kind c.of.ensures.refused)
