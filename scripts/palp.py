@@ -422,7 +422,8 @@ def run(words: str, items: Union[str, bytes, Iterable[Any]] = b"") -> List[Recor
     partition keeps the partitions before it. An item of which the command prints nothing (`poly -r`) has a record that says nothing.
     Of `cws` and `sweep`, which read no items, the records are those of the report.
 
-    Raises ProgramFault where the program ends for another cause, as a wrong word, and ValueError where the words aren't a text, or an item isn't of one of the forms that `text_of` takes.
+    Raises ProgramFault where the program ends for another cause, as a wrong word, and ValueError where the words aren't a text, or an item
+    isn't of one of the forms that `text_of` takes.
     """
     if not isinstance(words, str):
         raise ValueError('the words are one text, as "poly -n"')

@@ -9,7 +9,8 @@ use Rattle.palp_words.specs.declared.job.Job.{Job}
 use Rattle.palp_input.specs.Grammar.{most_bytes}
 use Rattle.palp_engine.specs.Commands.{ReadsText, GiveJob}
 use Rattle.palp_engine.specs.Texts.{HaveReport, of_bad_words}
-use Rattle.palp_engine.specs.Runs.{HasTaken, IsText, AreUntouched, IsReported, IsReportedInPart, IsDone, IsRefusal, HasReadFault, HasWriteFault, HasEnding, TellsBadWords, IsComplete}
+use Rattle.palp_engine.specs.Runs.{HasTaken, IsText, AreUntouched, IsReported, IsReportedInPart, IsDone, IsRefusal, HasReadFault}
+use Rattle.palp_engine.specs.Runs.{HasWriteFault, HasEnding, TellsBadWords, IsComplete}
 use Rattle.palp_engine.specs.RunSteps.{PerformedMeans, IsPerformed, OutcomeMeans, IsAnswered}
 use Rattle.palp_engine.specs.declared.outcome.Outcome.{Outcome}
 use Rattle.palp_engine.specs.declared.outcome.Outcome.TheVariants.{Done, BadWords, BadText, Refused, TextLimit, ReadFault, WriteFault, NoMemory}

@@ -1,5 +1,6 @@
 -- The words of `cws` and `sweep` give ranges that can be searched, and those of `nef` one part or more.
-use Rattle.std.proofs.Common.{◌≡◌, ℕ, suc, ◌+◌, ◌≤◌, Bool, true, false, cond, List, [], ◌∷◌, ◌++◌, length, drop, Option, Some, None, Result, Ok, Err, refl, sym, ap, ◌∙◌, subst, arith}
+use Rattle.std.proofs.Common.{◌≡◌, ℕ, suc, ◌+◌, ◌≤◌, Bool, true, false, cond, List, [], ◌∷◌, ◌++◌, length, drop, Option, Some, None, Result}
+use Rattle.std.proofs.Common.{Ok, Err, refl, sym, ap, ◌∙◌, subst, arith}
 use Rattle.std.specs.Prelude.{◌&&◌, ◌==◌, nat_le}
 use Rattle.std.specs.Str.{bytes_eq}
 use lib.Chars.{codes}
@@ -9,7 +10,9 @@ use Rattle.std.proofs.lemmas.List.{drop-drop}
 use Rattle.std.specs.List.{list_any}
 use Rattle.palp_words.specs.Numbers.{is_number_word, number_of, number_fault, largest}
 use Rattle.palp_words.specs.Places.{first_number_fault, first_number, first_size_fault, first_size}
-use Rattle.palp_words.specs.Words.{kind_or, fault_or, is_codim_word, codim_of, first_fault, answer_of, command_answer, poly_fault, poly_flags, nef_fault, nef_words, cws_fault, cws_job, cws_job_of, sweep_fault, sweep_job, is_option, is_size_word, without_options, highest, words_of}
+use Rattle.palp_words.specs.Words.{kind_or, fault_or, is_codim_word, codim_of, first_fault, answer_of, command_answer, poly_fault}
+use Rattle.palp_words.specs.Words.{poly_flags, nef_fault, nef_words, cws_fault, cws_job, cws_job_of, sweep_fault, sweep_job, is_option}
+use Rattle.palp_words.specs.Words.{is_size_word, without_options, highest, words_of}
 use Rattle.palp_words.specs.declared.fault.WordKind.{WordKind}
 use Rattle.palp_words.specs.declared.fault.WordKind.TheVariants.{Command, Range, Number, Flag}
 use Rattle.palp_words.specs.declared.fault.WordFault.{WordFault}

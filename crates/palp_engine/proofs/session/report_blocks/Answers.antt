@@ -19,7 +19,8 @@ pub returns : goal.returns
 returns g c =
     elim c.match-give.branch [
       | goal.in-All w ↦ rw w.result-is (whole_item (Poly c.args.flags.now) c.args.flags.now refl (listed c.args.item.now) _ c.write_piece.new.page
-          (written _ _ _ c.in_ok-wanted.wanted c.if-not-wanted.false c.in_ok-wanted.ensures) _ c.give.ensures.later (rw c.bytes.ensures at (rw w.in-All.is at c.give.ensures.means)))
+          (written _ _ _ c.in_ok-wanted.wanted c.if-not-wanted.false c.in_ok-wanted.ensures) _ c.give.ensures.later
+          (rw c.bytes.ensures at (rw w.in-All.is at c.give.ensures.means)))
       | goal.in-Failed w ↦ rw w.result-is (
         (w.in-Failed.ensures.means).rose,
         part_of_item (Poly c.args.flags.now) c.args.flags.now refl (listed c.args.item.now) _
