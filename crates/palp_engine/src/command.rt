@@ -97,6 +97,7 @@ fn report<S: Source, O: Sink>(alloc: Global, job: &Job, src: &mut S, out: &mut O
 
 /// Does the job that some words give.
 fn perform<S: Source, O: Sink>(alloc: Global, job: &Job, src: &mut S, out: &mut O) -> Outcome
+    requires parts { HasSomeParts job.now }
     requires given { IsGiven job.now }
     ensures { IsPerformed job.now (S.state src.old) (S.state src.new) (O.state out.old) (O.state out.new) result }
 {

@@ -1,7 +1,11 @@
 use Rattle.std.proofs.Common.{map, sym}
 use Rattle.std.specs.String.{string_bytes}
 use Rattle.palp_engine.proofs.RunMeanings.{performed_answer, bad_words_answer}
+use Rattle.palp_engine.proofs.WordRanges.{given_some_parts}
 use Rattle.palp_engine.proofs.command.answer.Goals as goal
+
+pub perform-requires-clause-parts : goal.perform-requires-clause-parts
+perform-requires-clause-parts g c = given_some_parts c.in-Ok.job (map (λ w. string_bytes w) c.args.words.now, sym c.in-Ok.ensures)
 
 pub perform-requires-clause-given : goal.perform-requires-clause-given
 perform-requires-clause-given g c = (map (λ w. string_bytes w) c.args.words.now, sym c.in-Ok.ensures)

@@ -1,12 +1,5 @@
 use Rattle.palp_engine.proofs.ListRuns.{cws_range, sweep_range, cws_performed, sweep_performed}
-use Rattle.palp_engine.proofs.WordRanges.{given_some_parts}
 use Rattle.palp_engine.proofs.command.perform.Goals as goal
-
-pub report-requires-clause-parts : goal.report-requires-clause-parts
-report-requires-clause-parts g c = given_some_parts c.args.job.now c.requires.given
-
-pub report-in-Nef-requires-clause-parts : goal.report-in-Nef-requires-clause-parts
-report-in-Nef-requires-clause-parts g c = given_some_parts c.args.job.now c.requires.given
 
 pub list_systems-requires : goal.list_systems-requires
 list_systems-requires g c = cws_range c.args.job.now c.in-Cws.words c.in-Cws.is c.requires.given
