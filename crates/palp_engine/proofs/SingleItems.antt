@@ -15,13 +15,13 @@ use Rattle.item_points.proofs.SingleItems.{one_list_of_points, one_points_refusa
 use Rattle.dual_pair.specs.Polytopes.{PolytopeState, IsPolytopeOf}
 use Rattle.dual_pair.specs.Pairs.{IsReflexivePolytope, HasNoDual}
 use Rattle.dual_pair.specs.Faces.{on_facets}
-use Rattle.dual_pair.proofs.VertexLists.{polytopes_are_single_lem}
 use Rattle.batyrev.specs.declared.line.HodgeLine.{HodgeLine}
 use Rattle.palp_print.specs.Blocks.{columns, pairing, incidence}
 use Rattle.palp_print.specs.declared.titles.Title.TheVariants.{Vertices, Points}
 use Rattle.palp_engine.specs.Reports.{HaveFewPoints, IsRefused}
 use Rattle.palp_engine.specs.Shown.{Shown, Alone, Paired, shown_polytope, IsShown, AskFaces, AreNumbersOf}
 use Rattle.item_polytopes.specs.Kinds.{HasPolytope}
+use Rattle.item_polytopes.proofs.SingleKinds.{one_polytope}
 use Rattle.palp_engine.specs.Items.{IsHullRefusal, HasNoAskedDual, HasManyFaces, IsAskedRefusal, no_asked_dual, many_faces, IsItemRefused}
 use Rattle.palp_print.specs.Lists.{item_echo}
 use Rattle.palp_engine.specs.Items.{IsAccepted, facet_block, asked, general_line, dual_columns, blocks}
@@ -54,11 +54,6 @@ few_of points p h = record {
   few = h.few_points;
 }
 
-pub one_polytope_of : (item : Listed) (p q : PolytopeState) → HasPolytope item p → HasPolytope item q → p ≡ q
-one_polytope_of item p q a b =
-    let same = one_list_of_points item a.points b.points a.has_points b.has_points in
-    polytopes_are_single_lem a.points p q a.is_polytope (subst (λ (xs : List (List ℤ)). IsPolytopeOf xs q) (sym same) b.is_polytope)
-
 polytope_or_points_refusal : (item : Listed) (p : PolytopeState) (cause : Refusal) → HasPolytope item p → IsPointsRefusal item cause → ⊥
 polytope_or_points_refusal item p cause h r = points_or_refusal item h.points cause h.has_points r
 
@@ -81,12 +76,12 @@ of_polytope flags item _ (many_faces m) = record { polytope = m.polytope; has_po
 dual_or_shown : (flags : PolyFlags) (item : Listed) (p : PolytopeState) (shown : Shown) (cause : Refusal) → HasPolytope item p
     → IsShown flags p shown → HasNoAskedDual flags item cause → ⊥
 dual_or_shown flags item p shown cause h is d = shown_or_no_dual flags p shown cause is d.are_asked
-    (subst (λ (q : PolytopeState). HasNoDual q cause) (one_polytope_of item d.polytope p d.has_polytope h) d.no_dual)
+    (subst (λ (q : PolytopeState). HasNoDual q cause) (one_polytope item d.polytope p d.has_polytope h) d.no_dual)
 
 one_asked_refusal : (flags : PolyFlags) (item : Listed) (cause other : Refusal) → IsAskedRefusal flags item cause
     → IsAskedRefusal flags item other → cause ≡ other
 one_asked_refusal flags item cause other (no_asked_dual a) (no_asked_dual b) = one_no_dual a.polytope cause other a.no_dual
-    (subst (λ (q : PolytopeState). HasNoDual q other) (one_polytope_of item b.polytope a.polytope b.has_polytope a.has_polytope) b.no_dual)
+    (subst (λ (q : PolytopeState). HasNoDual q other) (one_polytope item b.polytope a.polytope b.has_polytope a.has_polytope) b.no_dual)
 one_asked_refusal flags item cause _ (no_asked_dual a) (many_faces b) =
     absurd (dual_or_shown flags item b.polytope b.shown cause b.has_polytope b.is_shown a)
 one_asked_refusal flags item _ other (many_faces a) (no_asked_dual b) =
@@ -112,7 +107,7 @@ one_item_refusal flags item cause other (inr (inr a)) (inr (inr b)) = one_asked_
 module _ (flags : PolyFlags) (item : Listed) (p : PolytopeState) (shown : Shown) (a : IsAccepted flags item p shown) where
   pub same_shown : (q : PolytopeState) (other : Shown) → HasPolytope item q → IsShown flags q other → shown ≡ other
   same_shown q other h is = one_shown flags p shown other a.is_shown
-      (subst (λ (r : PolytopeState). IsShown flags r other) (one_polytope_of item q p h a.has_polytope) is)
+      (subst (λ (r : PolytopeState). IsShown flags r other) (one_polytope item q p h a.has_polytope) is)
 
   -- and isn't refused
   faces_or_accepted : (told : ℕ) → HasManyFaces flags item told → ⊥
@@ -180,7 +175,7 @@ piece_or_refusal flags item piece cause a r = accepted_or_refused flags item a.p
 
 pub piece_or_none : PieceOrNone
 piece_or_none flags item piece a b =
-    b.other (subst IsReflexivePolytope (one_polytope_of item a.polytope b.polytope a.accepted.has_polytope b.accepted.has_polytope)
+    b.other (subst IsReflexivePolytope (one_polytope item a.polytope b.polytope a.accepted.has_polytope b.accepted.has_polytope)
     (a.is_wanted b.reflexive_only))
 
 pub none_or_refusal : NoneOrRefusal

@@ -11,13 +11,14 @@ use Rattle.dual_pair.specs.Faces.{on_facets}
 use Rattle.batyrev.specs.declared.line.HodgeLine.{HodgeLine}
 use Rattle.palp_engine.specs.Shown.{ask_dual, Shown, Alone, Paired, shown_polytope, own_side, IsShown, AreNumbersOf}
 use Rattle.item_polytopes.specs.Kinds.{HasPolytope}
+use Rattle.item_polytopes.proofs.SingleKinds.{one_polytope}
 use Rattle.palp_print.specs.Lists.{item_echo}
 use Rattle.palp_engine.specs.Items.{IsPiece, facet_block, asked, general_line, dual_columns, list_blocks, blocks}
 use Rattle.palp_print.specs.Blocks.{columns, pairing, incidence}
 use Rattle.palp_print.specs.declared.titles.Title.TheVariants.{Vertices, Points}
 use Rattle.palp_engine.specs.Laws.{with_dual, WayBack}
 use Rattle.palp_engine.proofs.SingleShown.{one_shown}
-use Rattle.palp_engine.proofs.SingleItems.{one_polytope_of, one_text}
+use Rattle.palp_engine.proofs.SingleItems.{one_text}
 
 -- letters that don't ask the dual print neither the general line nor the dual's points
 unasked : (plain general points turned : Bool) → plain ≡ false → (not plain && (general || (points || turned))) ≡ false
@@ -75,11 +76,11 @@ module _ (flags : PolyFlags) (item back : Listed) (pair : PairState) (piece othe
   back_shown : b.shown ≡ Paired pair
   back_shown = one_shown (with_dual flags) pair.n b.shown (Paired pair)
       (subst (λ (p : PolytopeState). IsShown (with_dual flags) p b.shown)
-      (one_polytope_of back b.polytope pair.n b.accepted.has_polytope has_back) b.accepted.is_shown)
+      (one_polytope back b.polytope pair.n b.accepted.has_polytope has_back) b.accepted.is_shown)
       (asks_with_dual flags.plain flags.general flags.dual_points plain, (is, refl))
 
   own_shown : IsShown flags pair.m a.shown
-  own_shown = subst (λ (p : PolytopeState). IsShown flags p a.shown) (one_polytope_of item a.polytope pair.m a.accepted.has_polytope has)
+  own_shown = subst (λ (p : PolytopeState). IsShown flags p a.shown) (one_polytope item a.polytope pair.m a.accepted.has_polytope has)
       a.accepted.is_shown
 
   back_numbers : AreNumbersOf flags (Paired pair) b.numbers
