@@ -44,12 +44,12 @@ module _ (words : NefWords) (pair : PairState) (is : IsPair pair) (within : AreF
   one_refusal_of : (only : Bool) (parts : List ℕ) (cause other : Refusal) → IsPartitionRefused only pair words.codim parts cause
       → IsPartitionRefused only pair words.codim parts other → cause ≡ other
   one_refusal_of true parts cause other a b = absurd a
-  one_refusal_of false parts cause other a b = one_refusal_lem pair words.codim parts cause other is in_rank a b
+  one_refusal_of false parts cause other a b = one_refusal_lem pair words.codim parts cause other a b
 
   piece_or_refusal : (only full : Bool) (number : ℕ) (parts piece : List ℕ) (cause : Refusal) → TellsPartition only full pair words.codim number parts piece
       → IsPartitionRefused only pair words.codim parts cause → ⊥
   piece_or_refusal true full number parts piece cause a b = b
-  piece_or_refusal false full number parts piece cause a b = numbers_or_refusal_lem pair words.codim parts a.numbers cause is in_rank a.has_numbers b
+  piece_or_refusal false full number parts piece cause a b = numbers_or_refusal_lem pair words.codim parts a.numbers cause a.has_numbers b
 
 module _ (words : NefWords) (pair : PairState) (is : IsPair pair) (within : AreFewParts words.list_only pair words.codim) (k : ℕ) where
   abbrev l : PairLists
