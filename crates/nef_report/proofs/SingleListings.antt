@@ -1,5 +1,5 @@
 -- An item is listed, isn't reflexive, or is refused, and that once.
-use Rattle.std.proofs.Common.{◌≡◌, ℕ, subst, inl, inr}
+use Rattle.std.proofs.Common.{◌≡◌, subst, inl, inr}
 use Rattle.lattice_core.specs.declared.faults.Refusal.{Refusal}
 use Rattle.palp_words.specs.declared.job.NefWords.{NefWords}
 use Rattle.palp_input.specs.Grammar.{Listed}

@@ -1,12 +1,11 @@
 -- What is said of an item next is one thing.
-use Rattle.std.proofs.Common.{◌≡◌, ℕ, ◌+◌, ◌<◌, Bool, true, false, List, [], ◌++◌, ℤ, refl, sym, ◌∙◌, ap, subst, arith}
+use Rattle.std.proofs.Common.{◌≡◌, ℕ, ◌+◌, ◌<◌, Bool, true, false, List, [], ◌++◌, refl, sym, ◌∙◌, ap, subst, arith}
 use Rattle.lattice_core.specs.Dimensions.{dimension_of}
 use Rattle.lattice_core.specs.declared.faults.Refusal.{Refusal}
-use Rattle.lattice_core.specs.declared.faults.Refusal.TheVariants.{Limit}
-use Rattle.report_theory.specs.Report.{Whole, Ends, Step, Piece, Close}
+use Rattle.report_theory.specs.Report.{Ends, Step, Piece, Close}
 use Rattle.palp_words.specs.declared.job.NefWords.{NefWords}
 use Rattle.palp_input.specs.Grammar.{Listed}
-use Rattle.palp_print.specs.Partitions.{partition, partition_with, diamond}
+use Rattle.palp_print.specs.Partitions.{partition_with, diamond}
 use Rattle.dual_pair.specs.Polytopes.{PolytopeState}
 use Rattle.dual_pair.specs.Pairs.{PairState, IsPair}
 use Rattle.stringy.specs.Numbers.{EState}
@@ -16,7 +15,6 @@ use Rattle.nef_parts.proofs.FirstPartitions.{one_partition_at_lem, fewer_than_al
 use Rattle.cayley.specs.Limits.{IsWithinRank}
 use Rattle.nef_numbers.specs.Laws.{TellTheSame}
 use Rattle.nef_numbers.proofs.SingleNumbers.{numbers_are_single_lem, one_refusal_lem, numbers_or_refusal_lem}
-use Rattle.item_polytopes.specs.Kinds.{IsOther}
 use Rattle.item_polytopes.proofs.SingleKinds.{one_polytope, one_pair}
 use Rattle.nef_report.specs.Items.{AreFewParts, IsListed}
 use Rattle.nef_report.specs.Partitions.{body_text, heading_text, numbers_text, TellsPartition, IsPartitionRefused, IsPartPiece, IsPartRefusal}
