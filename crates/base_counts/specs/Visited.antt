@@ -1,9 +1,12 @@
 -- How a point is counted by the degree of its base. This project's own.
-use Rattle.std.specs.Prelude.{◌≡◌, ◌⊎◌, ℕ, suc, ◌<◌, ◌≤◌, List, length, ℤ}
+use Rattle.std.specs.Prelude.{◌≡◌, ℕ, ◌<◌, ◌≤◌, List, length, ℤ, pos}
 use Rattle.lattice_theory.specs.Affine.{Affine}
 use Rattle.bit_pool.specs.Bits.{HasBit}
 use Rattle.face_closing.specs.Words.{set_of}
-use Rattle.cayley_theory.specs.Bases.{HasBaseOf, Number}
+use Rattle.face_theory.specs.Pairings.{is_zero}
+use Rattle.incidence.specs.Incidences.{HasExactly}
+use Rattle.cayley_theory.specs.Counts.{sum_of}
+use Rattle.cayley_theory.specs.Bases.{HasBaseOf, IsBase, Number, pairing_with}
 use Rattle.base_counts.specs.Counting.{set_at, count_at}
 use Rattle.base_counts.specs.declared.counts.TheConstants.{DEGREES}
 
@@ -15,11 +18,18 @@ AreWithin many rows = (k : ℕ) → k < length rows → (number : ℕ) → many 
 abbrev pub HasBaseOn : ℕ → List Affine → List (List ℕ) → ℕ → ℕ → List ℤ → Type 0
 HasBaseOn r vs rows k l x = HasBaseOf r vs (set_of (length vs) (set_at rows k)) l x
 
--- for each set and degree the count is one more where the base of x has the degree and is 0 on the set, and otherwise the same
-abbrev pub IsPointCounted : ℕ → List Affine → List (List ℕ) → List ℤ → List ℕ → List ℕ → Type 0
-IsPointCounted r vs rows x old new = (k l : ℕ) → k < length rows → l < DEGREES
-    → (HasBaseOn r vs rows k l x × (count_at new k l ≡ suc (count_at old k l)))
-    ⊎ ((HasBaseOn r vs rows k l x → ⊥) × (count_at new k l ≡ count_at old k l))
+-- the base of x has degree l, and the words tell the vectors that pair to 0 with x and its base
+pub record IsTightAt (r : ℕ) (vs : List Affine) (x : List ℤ) (l : ℕ) (words : List ℕ) : Type 0 where
+  pub base : List ℤ
+  pub is_base : IsBase r vs x base
+  pub degree : sum_of base ≡ pos l
+  pub bits : HasExactly (length vs) (λ i. is_zero (pairing_with vs x base i)) words
+
+-- the degree of the base of x isn't one of those that are told apart
+pub record IsFar (r : ℕ) (vs : List Affine) (x : List ℤ) : Type 0 where
+  pub base : List ℤ
+  pub is_base : IsBase r vs x base
+  pub far : (l : ℕ) → l < DEGREES → sum_of base ≡ pos l → ⊥
 
 -- the counts of each set and degree are the numbers of the points whose base has the degree and is 0 on the set
 abbrev pub AreCountsOf : ℕ → List Affine → List (List ℕ) → List (List ℤ) → List ℕ → Type 0

@@ -4,8 +4,8 @@
 //! of `cayley_theory`.
 //!
 //! Its central theorem: the heights that are found are the base of the definition (`base_into`, `tops_are_bases`), words tell exactly the vectors that
-//! pair to 0 with the point and its base, and with them the sets on which all do (`tight_into`, `sets_within_tight`), for which a point is counted
-//! (`add_point`) at the degree of its base (`count_point`).
+//! pair to 0 with the point and its base (`tight_at`), and with them the sets on which all do (`sets_within_tight`), for which a point is counted
+//! (`add_point`).
 #![tactic(auto)]
 
 mod base;
@@ -16,7 +16,7 @@ mod visit;
 pub use base::{LOWEST, base_into, degree_of, part_of, tight_into};
 pub use counts::{DEGREES, add_point};
 pub use laws::{sets_within_tight, tops_are_bases};
-pub use visit::count_point;
+pub use visit::tight_at;
 
 #[cfg(test)]
 mod tests;

@@ -1,7 +1,7 @@
 //! The base of a point over the vectors of a segment's cone.
 ghost use Rattle.std.specs.Prelude.{◌≡◌, [], ◌∷◌};
 
-use crate::{add_point, base_into, count_point, degree_of, tight_into};
+use crate::{add_point, base_into, degree_of, tight_at, tight_into};
 use bit_pool::Generation;
 use lattice_core::{Functional, Point};
 use std::test::Fail;
@@ -43,14 +43,12 @@ fn counts_a_point_for_the_sets_within(rt: HostRuntime) -> Result<(), Fail> {
 }
 
 #[test]
-fn counts_a_point_at_its_degree(rt: HostRuntime) -> Result<(), Fail> {
+fn tells_the_degree_of_a_point(rt: HostRuntime) -> Result<(), Fail> {
     let vectors = [vector(-1, 0), vector(0, -1), vector(0, 0), vector(1, -1)];
     let x = Point::new(&[2]).expect(&rt, "one entry");
-    let mut sets = Generation::open(rt.alloc(), 0, 1, 2)?;
-    sets.push(&[1]);
-    sets.push(&[4]);
-    let mut counts = [0; 14];
-    count_point(&mut counts, &sets, &vectors, &x, &mut [0; 2], &mut [0; 1]);
-    assert_eq!(rt; counts, [0, 0, 1, 0, 0, 0, 0, 0, 0, 0, 0, 0, 0, 0]);
+    let mut tight = [0; 1];
+    let degree = tight_at(&mut tight, &mut [0; 2], &vectors, &x);
+    assert_eq!(rt; degree, Some(2));
+    assert_eq!(rt; tight, [3]);
     Ok(())
 }

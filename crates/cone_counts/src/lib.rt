@@ -16,3 +16,6 @@ mod sums;
 
 pub use counts::FaceCounts;
 pub use limits::MOST_PAIRS;
+
+#[cfg(test)]
+mod tests;

@@ -1,5 +1,9 @@
+pub mod Gathering
+pub mod Totals
+pub mod Raised
+pub mod Shares
+pub mod Visits
 pub mod Starts
-pub mod Below
+pub mod FirstCounter
 pub mod Counted
-pub mod Steps
 pub mod Samples

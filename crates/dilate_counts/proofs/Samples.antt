@@ -4,7 +4,6 @@ use Rattle.lattice_theory.specs.Affine.{Affine}
 use Rattle.lattice_theory.proofs.Members.{empty, more, all_from_each}
 use Rattle.cayley_theory.specs.Bases.{part_in}
 use Rattle.base_counts.specs.Counting.{HaveWords}
-use Rattle.base_counts.specs.Laws.{HaveAllParts}
 use Rattle.base_counts.proofs.Words.{two_within}
 use Rattle.dilate_counts.specs.Counters.{AreSets}
 

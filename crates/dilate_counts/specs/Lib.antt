@@ -1,2 +1,3 @@
 pub mod DilateCounts
+pub mod Classes
 pub mod Counters

@@ -1,5 +1,5 @@
 //! The counts of the points of a dilate.
-ghost use Rattle.std.specs.Prelude.{◌≡◌, ◌≤◌, length, IfOk};
+ghost use Rattle.std.specs.Prelude.{◌≡◌, ◌≤◌, [], length, IfOk};
 ghost use Rattle.lattice_theory.specs.Facet.{AreFacetsInAnyOrder};
 ghost use Rattle.lattice_core.specs.Dimensions.{dimension_of};
 ghost use Rattle.lattice_core.specs.PointLists.{AreSolidPoints};
@@ -13,13 +13,27 @@ use crate::counter::BaseCounter;
 use crate::limits::MOST_COUNTED;
 use base_counts::DEGREES;
 use bit_pool::Generation;
+use face_closing::{MOST_FACES, RowTable};
 use lattice_core::{Functional, NoMemory, Point};
 use point_scan::for_each_dilate;
 use std::alloc::Global;
 
+/// A table without classes, whose rows have so many words.
+fn no_classes(alloc: Global, words: usize) -> Result<RowTable, NoMemory>
+    requires some { 1 ≤ words }
+    requires most { words ≤ 64 }
+    ensures row_words { IfOk result (λ classes. classes.row_words ≡ words) }
+    ensures empty { IfOk result (λ classes. classes.rows ≡ []) }
+{
+    match RowTable::open(alloc, words) {
+        Ok(classes) => Ok(classes),
+        Err(_) => Err(NoMemory),
+    }
+}
+
 /// For each of the sets and each degree from 0 to 6, how many lattice points of the dilate of the hull of vertices have a base of that degree that pairs
 /// to 0 with the vectors of the set: set by set, and degree by degree for each set. The vertices aren't flat, `facets` are all their facets, in any order,
-/// and the dilate is at most 7 and has at most 4,194,304 lattice points. There are at most 4,096 vectors, with as many entries as the vertices; each is of
+/// and the dilate is at most 7 and has at most 4,194,304 lattice points. There are 1 to 4,096 vectors, with as many entries as the vertices; each is of
 /// one of at most 3 parts, which is the absolute value of its constant, and each part has a vector; the sets are at most 2^24 rows of as few words as hold
 /// a bit for each vector. Without memory it is `NoMemory`. This project's own.
 pub fn count_dilate(
@@ -35,6 +49,7 @@ pub fn count_dilate(
     requires facets { AreFacetsInAnyOrder (dimension_of vertices.now) vertices.now facets.now }
     requires dilate { dilate ≤ MOST_DILATE }
     requires few { HasFewPoints vertices.now dilate }
+    requires some { 1 ≤ length vectors.now }
     requires many { length vectors.now ≤ MOST_WIDTH }
     requires rows { length sets.now.rows ≤ MOST_ROWS }
     requires sets { AreSets (dimension_of vertices.now) parts vectors.now (words_for (length vectors.now)) sets.now.rows }
@@ -47,6 +62,8 @@ pub fn count_dilate(
         sets,
         base: vec![in alloc; 0; parts]?,
         tight: vec![in alloc; 0; words]?,
+        classes: no_classes(alloc, words)?,
+        seen: vec![in alloc; 0; MOST_FACES * DEGREES]?,
         counts: vec![in alloc; 0; sets.len() * DEGREES]?,
         left: MOST_COUNTED,
     };

@@ -13,7 +13,7 @@ mod numbers;
 mod rooms;
 
 pub use laws::{found_have_parts, numbers_are_single};
-pub use limits::{FEW, MOST_FUNCTIONS, MOST_PARTS, MOST_RAYS};
+pub use limits::{FEW, MOST_FUNCTIONS, MOST_RAYS};
 pub use numbers::numbers_of;
 pub use rooms::ConeRooms;
 

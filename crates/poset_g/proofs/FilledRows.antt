@@ -9,10 +9,10 @@ use Rattle.poset_g.specs.Numbered.{numbered, IsInterval, HasAllFaces, HasSmallRa
 use Rattle.poset_g.specs.Stored.{PlacesState, find_at}
 use Rattle.poset_g.specs.Values.{Place, coefficient, gap_of}
 use Rattle.poset_g.specs.PlaceSteps.{ArePlaces}
-use Rattle.poset_g.specs.FillSteps.{number_of, kept_at, IsReached, AreFilled, CanFill}
+use Rattle.poset_g.specs.FillSteps.{number_of, kept_at, IsReached, AreFilled, CanFill, AreLower}
 use Rattle.poset_g.proofs.IntervalNumbers.{not_found}
 use Rattle.poset_g.proofs.Terms.{rank_up, rank_small}
-use Rattle.poset_g.proofs.NumberedFaces.{not_behind}
+use Rattle.poset_g.proofs.NumberedFaces.{not_behind, ranks_ascend}
 use Rattle.poset_g.proofs.FilledPlaces.{same_or_not, number_small}
 
 -- one small value more
@@ -71,6 +71,25 @@ pair_or_before table p gap from to (inr h) = first h.1
     first (inl m) = inl (inr (h.0, inl m))
     first (inr m) = second m.0 m.1
 
+-- faces of lower ranks: one more, and all of them
+pub one_lower : (table : TableState) (place rank : ℕ) → AreLower table place rank → (face_at table.faces place).rank < rank → AreLower table (place + 1) rank
+one_lower table place rank before h z l m = by (cases_lt z place)
+  where
+    by : (z < place) ⊎ (place ≤ z) → (face_at table.faces z).rank < rank
+    by (inl k) = before z k m
+    by (inr k) = let e = ap (λ (i : ℕ). (face_at table.faces i).rank) (same z place l k) in omega arith
+      where
+        same : (z place : ℕ) → z < place + 1 → place ≤ z → z ≡ place
+        same z place l k = omega arith
+
+pub all_lower : (table : TableState) (place end rank : ℕ) → length table.faces ≤ place → AreLower table place rank → AreLower table end rank
+all_lower table place end rank l before z k m = before z (omega arith) m
+
+-- of faces with lower ranks, those of later ones are lower, too
+pub still_lower : (table : TableState) → HasAllFaces table → (first from next gap : ℕ) → AreLower table first ((face_at table.faces from).rank + gap) → from ≤ next
+    → next < length table.faces → AreLower table first ((face_at table.faces next).rank + gap)
+still_lower table h first from next gap before l m z k i = let e = before z k i in let f = ranks_ascend h.0 table h.1 from next l m in omega arith
+
 module _ (table : TableState) (h : HasAllFaces table) (s : PlacesState) (values : List ℤ) where
   -- none with this difference of ranks
   pub skip_rank : (gap from to : ℕ) → ((face_at table.faces to).rank ≢ (face_at table.faces from).rank + gap)
@@ -88,6 +107,42 @@ module _ (table : TableState) (h : HasAllFaces table) (s : PlacesState) (values 
           → (kept_at s values p ≡ coefficient table p) × (nat_abs (coefficient table p) ≤ 4096)
       by (inl q) = filled p i d q
       by (inr q) = absurd (clash q.0 q.1 q.2)
+
+  -- none of several faces
+  pub skip_ranks : (gap from first end : ℕ) → ((z : ℕ) → first ≤ z → z < end → z < length table.faces → (face_at table.faces z).rank ≢ (face_at table.faces from).rank + gap)
+      → AreFilled table s values gap from first 0 → AreFilled table s values gap from end 0
+  skip_ranks gap from first end n filled p i d r = filled p i d (at r)
+    where
+      clash : (gap_of table p ≡ gap) → (p.from ≡ from) → first ≤ p.to → p.to < end → ⊥
+      clash e a l m =
+          let k = rank_up table h p.from p.to i in
+          let f = ap (λ (x : ℕ). (face_at table.faces x).rank) a in
+          n p.to l m i.to (omega arith)
+
+      by : (gap_of table p ≡ gap) → (p.from ≡ from) → p.to < end → (p.to < first) ⊎ (first ≤ p.to) → (p.to < first) ⊎ ((p.to ≡ first) × (number_of p < 0))
+      by e a m (inl l) = inl l
+      by e a m (inr l) = absurd (clash e a l m)
+
+      row : (gap_of table p ≡ gap) → (p.from < from) ⊎ ((p.from ≡ from) × ((p.to < end) ⊎ ((p.to ≡ end) × (number_of p < 0))))
+          → (p.from < from) ⊎ ((p.from ≡ from) × ((p.to < first) ⊎ ((p.to ≡ first) × (number_of p < 0))))
+      row e (inl m) = inl m
+      row e (inr (a, inl m)) = inr (a, by e a m (cases_lt p.to first))
+      row e (inr (a, inr m)) = let k = m.1 in absurd (omega arith)
+
+      at : IsReached table gap from end 0 p → IsReached table gap from first 0 p
+      at (inl m) = inl m
+      at (inr m) = inr (m.0, row m.0 m.1)
+
+  -- the first of them, where those before it have lower ranks
+  pub skip_lower : (gap from first : ℕ) → AreLower table first ((face_at table.faces from).rank + gap) → AreFilled table s values gap from 0 0
+      → AreFilled table s values gap from first 0
+  skip_lower gap from first before filled = skip_ranks gap from 0 first (λ z l m k e. let b = before z m k in omega arith) filled
+
+  -- the rest, where one has a higher rank
+  pub skip_higher : (gap from to : ℕ) → (face_at table.faces from).rank + gap < (face_at table.faces to).rank → AreFilled table s values gap from to 0
+      → AreFilled table s values gap from (length table.faces) 0
+  skip_higher gap from to higher filled = skip_ranks gap from to (length table.faces)
+      (λ z l m k e. let f = ranks_ascend h.0 table h.1 to z l k in omega arith) filled
 
   -- no interval
   pub skip_none : ArePlaces (numbered table) (length table.faces) s → (gap from to : ℕ) → find_at s from to ≡ 0

@@ -1,5 +1,5 @@
 -- The numbers of a table's faces have an order along which ranks rise.
-use Rattle.std.proofs.Common.{◌≡◌, ◌≢◌, ◌⊎◌, inl, inr, ⊎_elim, ◌↔◌, IsTrue, ℕ, ◌*◌, ◌<◌, ◌≤◌, Bool, true, false, not, ◌==◌, List, length, sym, ◌∙◌, subst, arith}
+use Rattle.std.proofs.Common.{◌≡◌, ◌≢◌, ◌⊎◌, inl, inr, ⊎_elim, ◌↔◌, IsTrue, ℕ, ◌*◌, ◌<◌, ◌≤◌, Bool, true, false, not, ◌==◌, List, length, sym, ap, ◌∙◌, subst, arith}
 use Rattle.std.proofs.lemmas.Bool.{cases_lt, and_parts, not-true}
 use Rattle.std.proofs.lemmas.List.Elements.{All-get_or}
 use Rattle.bit_pool.specs.Bits.{bit_of, HasBit, IsSubset, words_for}
@@ -90,6 +90,21 @@ module _ (R : TightRelation) (table : TableState) (t : IsTableOf R table) where
       by : (y < x) ⊎ (x ≤ y) → x ≤ y
       by (inl h) = absurd (clash (t.ascending y x no_face h l))
       by (inr h) = h
+
+  -- ranks ascend
+  pub ranks_ascend : (x y : ℕ) → x ≤ y → y < length table.faces → (face_at table.faces x).rank ≤ (face_at table.faces y).rank
+  ranks_ascend x y l m = by (cases_lt x y)
+    where
+      after : ComesBefore (face_at table.faces x) (face_at table.faces y) → (face_at table.faces x).rank ≤ (face_at table.faces y).rank
+      after (inl h) = omega arith
+      after (inr h) = let e = h.0 in omega arith
+
+      by : (x < y) ⊎ (y ≤ x) → (face_at table.faces x).rank ≤ (face_at table.faces y).rank
+      by (inl h) = after (t.ascending x y no_face h m)
+      by (inr h) = let e = ap (λ (i : ℕ). (face_at table.faces i).rank) (same x y l h) in omega arith
+        where
+          same : (x y : ℕ) → x ≤ y → y ≤ x → x ≡ y
+          same x y l h = omega arith
 
   rise : (x y : ℕ) → x < length table.faces → y < length table.faces → (numbered table).below x y ≡ true → (numbered table).below y x ≡ false
       → (face_at table.faces x).rank < (face_at table.faces y).rank

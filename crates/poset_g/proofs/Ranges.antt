@@ -2,11 +2,9 @@
 use Rattle.std.proofs.Common.{◌≡◌, ℕ, zero, suc, ◌+◌, ◌-◌, ◌<◌, ◌≤◌, nat_lt, ◌&&◌, Bool, true, false, cond, List, [], ◌∷◌, ◌++◌, length, refl, sym, ap, ◌∙◌, subst, arith}
 use Rattle.std.proofs.lemmas.List.FromFn.{get_or-range_with_len, length-range_with_len}
 use Rattle.std.proofs.lemmas.List.Elements.{Contains-get_or}
-use Rattle.std.proofs.lemmas.List.{length-append}
 use Rattle.std.specs.List.{Contains, filter, range_with_len}
 use Rattle.lattice_theory.proofs.Sublists.{filter-append}
 use Rattle.poset_g.specs.Stored.{PlacesState, find_at}
-use Rattle.poset_g.specs.FillSteps.{is_between}
 
 -- one number more
 pub range_more : (a n : ℕ) → range_with_len a (suc n) ≡ range_with_len a n ++ (a + n) ∷ []
@@ -60,24 +58,32 @@ missing : (n : ℕ) → ((p : ℕ) → n ≡ suc p → ⊥) → nat_lt 0 n ≡ f
 missing zero h = refl
 missing (suc n) h = absurd (h n refl)
 
-first_fails : (a b : Bool) → a ≡ false → (a && b) ≡ false
-first_fails a b e = ap (λ (c : Bool). c && b) e
-
-second_fails : (a b : Bool) → b ≡ false → (a && b) ≡ false
-second_fails true b e = e
-second_fails false b e = refl
-
-pub none_before : (s : PlacesState) (x y : ℕ) → ((z p : ℕ) → find_at s x z ≡ suc p → x ≤ z) → (z : ℕ) → z < x → is_between s x y z ≡ false
-none_before s x y h z l = first_fails (nat_lt 0 (find_at s x z)) (nat_lt 0 (find_at s z y)) (missing (find_at s x z) (λ p e. let m = h z p e in omega arith))
-
-pub none_behind : (s : PlacesState) (x y : ℕ) → ((z p : ℕ) → find_at s z y ≡ suc p → z ≤ y) → (z : ℕ) → y + 1 ≤ z → is_between s x y z ≡ false
-none_behind s x y h z l = second_fails (nat_lt 0 (find_at s x z)) (nat_lt 0 (find_at s z y)) (missing (find_at s z y) (λ p e. let m = h z p e in omega arith))
+pub none_below : (s : PlacesState) (x : ℕ) → ((z p : ℕ) → find_at s x z ≡ suc p → x ≤ z) → (z : ℕ) → z < x → nat_lt 0 (find_at s x z) ≡ false
+none_below s x h z l = missing (find_at s x z) (λ p e. let m = h z p e in omega arith)
 
 -- one face more
-pub more_between : (s : PlacesState) (x y n : ℕ) (b : Bool) (old new : List ℕ) → old ≡ filter (is_between s x y) (range_with_len 0 n) → b ≡ is_between s x y n
-    → new ≡ old ++ cond b (n ∷ []) [] → new ≡ filter (is_between s x y) (range_with_len 0 (n + 1))
-more_between s x y n b old new e f k = k ∙ ap (λ (xs : List ℕ). xs ++ cond b (n ∷ []) []) e ∙ sym (filter_more (is_between s x y) n b (sym f))
+pub more_kept : (test : ℕ → Bool) (n : ℕ) (old new : List ℕ) → old ≡ filter test (range_with_len 0 n) → new ≡ old ++ cond (test n) (n ∷ []) []
+    → new ≡ filter test (range_with_len 0 (n + 1))
+more_kept test n old new e k = k ∙ ap (λ (xs : List ℕ). xs ++ cond (test n) (n ∷ []) []) e ∙ sym (filter_more test n (test n) refl)
 
-pub more_length : (b : Bool) (n : ℕ) (old new : List ℕ) → new ≡ old ++ cond b (n ∷ []) [] → length old ≤ n → length new ≤ n + 1
-more_length true n old new e l = let f = ap length e ∙ length-append old (n ∷ []) in omega arith
-more_length false n old new e l = let f = ap length e ∙ length-append old [] in omega arith
+-- what passes one test after another
+pub filter_both : (a b : ℕ → Bool) (xs : List ℕ) → filter b (filter a xs) ≡ filter (λ z. a z && b z) xs
+filter_both a b [] = refl
+filter_both a b (x ∷ xs) = by (a x) (filter_both a b xs)
+  where
+    by : (c : Bool) → filter b (filter a xs) ≡ filter (λ z. a z && b z) xs
+        → filter b (cond c (x ∷ filter a xs) (filter a xs)) ≡ cond (c && b x) (x ∷ filter (λ z. a z && b z) xs) (filter (λ z. a z && b z) xs)
+    by true e = ap (λ (ys : List ℕ). cond (b x) (x ∷ ys) ys) e
+    by false e = e
+
+-- no more pass than there are
+pub filter_length : (test : ℕ → Bool) (xs : List ℕ) → length (filter test xs) ≤ length xs
+filter_length test [] = omega arith
+filter_length test (x ∷ xs) = by (test x) (filter_length test xs)
+  where
+    by : (b : Bool) → length (filter test xs) ≤ length xs → length (cond b (x ∷ filter test xs) (filter test xs)) ≤ length (x ∷ xs)
+    by true l = omega arith
+    by false l = omega arith
+
+pub few_kept : (test : ℕ → Bool) (n : ℕ) (xs : List ℕ) → xs ≡ filter test (range_with_len 0 n) → length xs ≤ n
+few_kept test n xs e = let f = ap length e in let g = filter_length test (range_with_len 0 n) in let h = length-range_with_len 0 n in omega arith

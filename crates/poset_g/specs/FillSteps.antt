@@ -5,7 +5,7 @@ use Rattle.lattice_theory.specs.Vector.{entry}
 use Rattle.polynomial_theory.specs.Sums.{sum_over}
 use Rattle.polynomial_theory.specs.Series.{Series, product, power, t_minus_1}
 use Rattle.face_closing.specs.declared.limits.TheConstants.{MOST_FACES}
-use Rattle.face_poset.specs.Faces.{TableState}
+use Rattle.face_poset.specs.Faces.{TableState, face_at}
 use Rattle.poset_g.specs.declared.faults.TheConstants.{MOST_COEFFICIENT}
 use Rattle.poset_g.specs.declared.sums.Wanted.{Wanted}
 use Rattle.poset_g.specs.Numbered.{numbered, IsInterval, HasAllFaces, HasSmallRanks}
@@ -13,9 +13,17 @@ use Rattle.poset_g.specs.Values.{Place, polynomial, coefficient, gap_of}
 use Rattle.poset_g.specs.Stored.{PlacesState, find_at, stored}
 use Rattle.poset_g.specs.PlaceSteps.{ArePlaces}
 
+-- each face before a place has a lower rank than this one
+abbrev pub AreLower : TableState → ℕ → ℕ → Type 0
+AreLower table place rank = (z : ℕ) → z < place → z < length table.faces → (face_at table.faces z).rank < rank
+
 -- the coefficient that is wanted
 abbrev pub place_of : Wanted → Place
 place_of w = record { from = w.from; to = w.to; dual = w.dual; degree = w.degree }
+
+-- the faces z with x <= z
+abbrev pub above : PlacesState → ℕ → List ℕ
+above s x = filter (λ z. nat_lt 0 (find_at s x z)) (range_with_len 0 s.count)
 
 -- the faces z with x <= z <= y
 abbrev pub is_between : PlacesState → ℕ → ℕ → ℕ → Bool

@@ -1,14 +1,15 @@
 //! How the coefficients are filled in, by rising difference of ranks.
 ghost use Rattle.std.specs.Prelude.{◌≡◌, suc, cond, ◌+◌, ◌*◌, ◌<◌, ◌≤◌, length, IfOk, IfErr};
 ghost use Rattle.face_closing.specs.declared.limits.TheConstants.{MOST_FACES};
+ghost use Rattle.face_poset.specs.Faces.{face_at};
 ghost use Rattle.poset_g.specs.Numbered.{numbered, IsInterval};
 ghost use Rattle.poset_g.specs.Stored.{find_at};
 ghost use Rattle.poset_g.specs.Values.{IsFault};
-ghost use Rattle.poset_g.specs.FillSteps.{place_of, between, number_of, CanFill, AreFilled, AreFilledTo};
+ghost use Rattle.poset_g.specs.FillSteps.{place_of, above, between, number_of, CanFill, AreFilled, AreFilledTo, AreLower};
 
 use crate::faults::{GFault, MOST_COEFFICIENT};
 use crate::places::Places;
-use crate::sums::{Wanted, find_between, value_of};
+use crate::sums::{Wanted, find_above, find_between, value_of};
 use face_poset::FaceTable;
 use std::alloc::Global;
 
@@ -84,12 +85,14 @@ fn fill_interval(
     table: &FaceTable,
     places: &Places,
     values: &mut Vec<i64>,
+    higher: &[u32],
     faces: &mut Vec<u32>,
     from: u32,
     to: u32,
     place: usize,
 ) -> Result<(), GFault>
     requires ready { CanFill table.now places.now values.old.items }
+    requires above { higher.now ≡ above places.now from }
     requires interval { IsInterval table.now from to }
     requires found { find_at places.now from to ≡ suc place }
     requires within { place < places.now.total }
@@ -98,7 +101,7 @@ fn fill_interval(
     ensures filled { IfOk result (λ done. AreFilled table.now places.now values.new.items ((numbered table.now).gap from to) from to 8) }
     ensures fault { IfErr result (IsFault table.now) }
 {
-    find_between(places, from, to, faces)?;
+    find_between(places, higher, from, to, faces)?;
     for number in 0..8 {
         fill_one(
             table,
@@ -117,12 +120,14 @@ fn fill_pair(
     table: &FaceTable,
     places: &Places,
     values: &mut Vec<i64>,
+    higher: &[u32],
     faces: &mut Vec<u32>,
     gap: u32,
     from: u32,
     to: u32,
 ) -> Result<(), GFault>
     requires ready { CanFill table.now places.now values.old.items }
+    requires above { higher.now ≡ above places.now from }
     requires gap { gap ≤ 8 }
     requires from { from < length table.now.faces }
     requires to { to < length table.now.faces }
@@ -139,31 +144,52 @@ fn fill_pair(
     match places.find(from, to) {
         None => Ok(()),
         Some(place) => {
-            fill_interval(table, places, values, faces, from, to, place)?;
+            fill_interval(table, places, values, higher, faces, from, to, place)?;
             Ok(())
         }
     }
 }
 
-/// The coefficients of the intervals from a face with one difference of ranks.
+/// The first face from a place on whose rank isn't below another one; of all faces before that place it is.
+fn first_at(table: &FaceTable, rank: u32, start: u32) -> u32
+    requires before { AreLower table.now start rank }
+    ensures before { AreLower table.now result rank }
+{
+    for face in start..table.len() {
+        if table.rank(face) >= rank {
+            return face;
+        }
+    }
+    table.len()
+}
+
+/// The coefficients of the intervals from a face with one difference of ranks. The faces before the first have too low ranks.
 fn fill_from(
     table: &FaceTable,
     places: &Places,
     values: &mut Vec<i64>,
+    higher: &mut Vec<u32>,
     faces: &mut Vec<u32>,
     gap: u32,
     from: u32,
+    first: u32,
 ) -> Result<(), GFault>
     requires ready { CanFill table.now places.now values.old.items }
     requires gap { gap ≤ 8 }
     requires from { from < length table.now.faces }
+    requires lower { AreLower table.now first ((face_at table.now.faces from).rank + gap) }
     requires filled { AreFilled table.now places.now values.old.items gap from 0 0 }
     ensures ready { CanFill table.now places.now values.new.items }
     ensures filled { IfOk result (λ done. AreFilled table.now places.now values.new.items gap (from + 1) 0 0) }
     ensures fault { IfErr result (IsFault table.now) }
 {
-    for to in from..table.len() {
-        fill_pair(table, places, values, faces, gap, from, to)?;
+    find_above(places, from, higher)?;
+    let rank = table.rank(from) + gap;
+    for to in first..table.len() {
+        if table.rank(to) > rank {
+            return Ok(());
+        }
+        fill_pair(table, places, values, higher, faces, gap, from, to)?;
     }
     Ok(())
 }
@@ -173,6 +199,7 @@ fn fill_gap(
     table: &FaceTable,
     places: &Places,
     values: &mut Vec<i64>,
+    higher: &mut Vec<u32>,
     faces: &mut Vec<u32>,
     gap: u32,
 ) -> Result<(), GFault>
@@ -183,8 +210,10 @@ fn fill_gap(
     ensures filled { IfOk result (λ done. AreFilled table.now places.now values.new.items (gap + 1) 0 0 0) }
     ensures fault { IfErr result (IsFault table.now) }
 {
+    let mut first = 0;
     for from in 0..table.len() {
-        fill_from(table, places, values, faces, gap, from)?;
+        first = first_at(table, table.rank(from) + gap, first);
+        fill_from(table, places, values, higher, faces, gap, from, first)?;
     }
     Ok(())
 }
@@ -201,9 +230,10 @@ pub(crate) fn fill(
     ensures filled { IfOk result (λ done. AreFilled table.now places.now values.new.items 9 0 0 0) }
     ensures fault { IfErr result (IsFault table.now) }
 {
+    let mut higher = Vec::with_capacity(alloc, table.len() as usize)?;
     let mut faces = Vec::with_capacity(alloc, table.len() as usize)?;
     for gap in 0..9 {
-        fill_gap(table, places, values, &mut faces, gap)?;
+        fill_gap(table, places, values, &mut higher, &mut faces, gap)?;
     }
     Ok(())
 }

@@ -38,6 +38,9 @@ fn next_number(table: &FaceTable, x: u32, y: u32, total: usize) -> (usize, u32)
     requires few { total < MOST_FACES * MOST_FACES }
     ensures { IsNext ((numbered table.now).below x y) total result.0 result.1 }
 {
+    if x > y {
+        return (total, 0);
+    }
     if table.below(x, y) {
         (total + 1, total as u32 + 1)
     } else {
@@ -94,6 +97,14 @@ impl Places {
         ensures few { result ≤ MOST_FACES * MOST_FACES }
     {
         self.total
+    }
+
+    /// How many faces there are.
+    pub(crate) fn count(&self) -> u32
+        requires { self.now.count ≤ MOST_FACES }
+        ensures { result ≡ self.now.count }
+    {
+        self.count as u32
     }
 
     /// The number of an interval, or `None` where there is none from x to y.

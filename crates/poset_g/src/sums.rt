@@ -8,7 +8,7 @@ ghost use Rattle.poset_g.specs.declared.faults.TheConstants.{MOST_COEFFICIENT};
 ghost use Rattle.poset_g.specs.Numbered.{IsInterval};
 ghost use Rattle.poset_g.specs.Stored.{find_at};
 ghost use Rattle.poset_g.specs.Values.{coefficient};
-ghost use Rattle.poset_g.specs.FillSteps.{place_of, is_between, between, near, negative_sum, kept_term, CanFill, AreFilledBelow};
+ghost use Rattle.poset_g.specs.FillSteps.{place_of, above, between, near, negative_sum, kept_term, CanFill, AreFilledBelow};
 
 use crate::faults::GFault;
 use crate::places::Places;
@@ -130,13 +130,6 @@ fn term_above(table: &FaceTable, places: &Places, values: &[i64], wanted: Wanted
     }
 }
 
-/// Whether a face is between two others, or one of them.
-fn is_inside(places: &Places, from: u32, to: u32, face: u32) -> bool
-    ensures { result ≡ is_between places.now from to face }
-{
-    has(places, from, face) && has(places, face, to)
-}
-
 /// Whether there is an interval.
 pub(crate) fn has(places: &Places, x: u32, y: u32) -> bool
     ensures { result ≡ nat_lt 0 (find_at places.now x y) }
@@ -147,42 +140,55 @@ pub(crate) fn has(places: &Places, x: u32, y: u32) -> bool
     }
 }
 
-/// One face more, where it is between two others or one of them.
-fn push_inside(
+/// One face more, where there is an interval from it, or to it.
+fn push_with(
     places: &Places,
     from: u32,
     to: u32,
     face: u32,
     faces: &mut Vec<u32>,
 ) -> Result<(), GFault>
-    ensures faces { IfOk result (λ done. faces.new.items ≡ faces.old.items ++ cond (is_between places.now from to face) (face ∷ []) []) }
+    ensures faces { IfOk result (λ done. faces.new.items ≡ faces.old.items ++ cond (nat_lt 0 (find_at places.now from to)) (face ∷ []) []) }
     ensures fault { IfErr result (λ fault. fault ≡ GFault.NoMemory) }
 {
-    if is_inside(places, from, to, face) {
+    if has(places, from, to) {
         faces.push(face)?;
     }
     Ok(())
 }
 
-/// The faces x with from <= x <= to, in order.
+/// The faces that are a face or above it, in order.
+pub(crate) fn find_above(places: &Places, from: u32, faces: &mut Vec<u32>) -> Result<(), GFault>
+    requires few { places.now.count ≤ MOST_FACES }
+    requires from { from ≤ places.now.count }
+    requires lower { (z p : ℕ) → find_at places.now from z ≡ suc p → from ≤ z }
+    ensures faces { IfOk result (λ done. faces.new.items ≡ above places.now from) }
+    ensures fault { IfErr result (λ fault. fault ≡ GFault.NoMemory) }
+{
+    faces.clear();
+    for face in from..places.count() {
+        push_with(places, from, face, face, faces)?;
+    }
+    Ok(())
+}
+
+/// The faces x with from <= x <= to, in order, of those that are `from` or above it.
 pub(crate) fn find_between(
     places: &Places,
+    higher: &[u32],
     from: u32,
     to: u32,
     faces: &mut Vec<u32>,
 ) -> Result<(), GFault>
-    requires to { to < places.now.count }
     requires few { places.now.count ≤ MOST_FACES }
-    requires lower { (z p : ℕ) → find_at places.now from z ≡ suc p → from ≤ z }
-    requires upper { (z p : ℕ) → find_at places.now z to ≡ suc p → z ≤ to }
-    requires order { from ≤ to }
+    requires above { higher.now ≡ above places.now from }
     ensures faces { IfOk result (λ done. faces.new.items ≡ between places.now from to) }
     ensures few { IfOk result (λ done. length faces.new.items ≤ MOST_FACES) }
     ensures fault { IfErr result (λ fault. fault ≡ GFault.NoMemory) }
 {
     faces.clear();
-    for face in from..to + 1 {
-        push_inside(places, from, to, face, faces)?;
+    for i in 0..higher.len() {
+        push_with(places, higher[i], to, higher[i], faces)?;
     }
     Ok(())
 }

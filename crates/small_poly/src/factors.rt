@@ -20,9 +20,11 @@ pub(crate) fn add_products(
     requires inner { length inner.now ≡ 289 }
     requires first { HasSmallTerms (pos 1) (entry right.now) (laurent_of inner.now) }
     requires second { HasSmallTerms (negsuc 0) (entry left.now) (times_at_product (entry right.now) (laurent_of inner.now)) }
-    requires small { (k : ℕ) → k < 289 → nat_abs (entry sums.old k +ℤ unit_of negative *ℤ times_both (entry left.now) (entry right.now) (laurent_of inner.now) (pos (k / 17)) (k % 17)) < 2 ^ 126 }
+    requires small { (k : ℕ) → k < 289 → nat_abs (entry sums.old k +ℤ unit_of negative *ℤ times_both (entry left.now) (entry right.now)
+        (laurent_of inner.now) (pos (k / 17)) (k % 17)) < 2 ^ 126 }
     ensures long { length sums.new ≡ 289 }
-    ensures value { (k : ℕ) → k < 289 → entry sums.new k ≡ entry sums.old k +ℤ unit_of negative *ℤ times_both (entry left.now) (entry right.now) (laurent_of inner.now) (pos (k / 17)) (k % 17) }
+    ensures value { (k : ℕ) → k < 289 → entry sums.new k ≡ entry sums.old k +ℤ unit_of negative *ℤ times_both (entry left.now) (entry right.now)
+        (laurent_of inner.now) (pos (k / 17)) (k % 17) }
 {
     for k in 0..sums.len() {
         sums[k] += signed(negative, with_both(left, right, inner, k / 17, k % 17));

@@ -90,8 +90,10 @@ impl Poly2 {
         requires high { HasNoPowerAbove 16 16 (times_both (entry left.now) (entry right.now) (laurent_of inner.now)) }
         requires first { HasSmallTerms (pos 1) (entry right.now) (laurent_of inner.now) }
         requires second { HasSmallTerms (negsuc 0) (entry left.now) (times_at_product (entry right.now) (laurent_of inner.now)) }
-        requires small { (i j : ℕ) → nat_abs (laurent_of self.old (pos i) j +ℤ unit_of negative *ℤ times_both (entry left.now) (entry right.now) (laurent_of inner.now) (pos i) j) < 2 ^ 126 }
-        ensures { (p : ℤ) (q : ℕ) → laurent_of self.new p q ≡ laurent_of self.old p q +ℤ unit_of negative *ℤ times_both (entry left.now) (entry right.now) (laurent_of inner.now) p q }
+        requires small { (i j : ℕ) → nat_abs (laurent_of self.old (pos i) j +ℤ unit_of negative *ℤ times_both (entry left.now) (entry right.now)
+            (laurent_of inner.now) (pos i) j) < 2 ^ 126 }
+        ensures { (p : ℤ) (q : ℕ) → laurent_of self.new p q ≡ laurent_of self.old p q +ℤ unit_of negative *ℤ times_both (entry left.now)
+            (entry right.now) (laurent_of inner.now) p q }
     {
         add_products(
             &mut self.coefficients,

@@ -151,3 +151,8 @@ returns c =
     (subst (λ (old : List ℕ). AreSummed c.in_ok-masks.masks.rows c.in_ok-sets.sets.rows old c.sum_all.new.counts) c.deref_mut.ensures.value
     c.sum_all.ensures.summed)
     (c.sum_all.ensures.whole ∙ ap length c.deref_mut.ensures.value))
+
+pub count_dilate-requires-clause-some : goal.count_dilate-requires-clause-some
+count_dilate-requires-clause-some c =
+    some_vectors c.args.pair.now c.args.cone.now c.args.table.now c.polytope_on-polytope.ensures.pair c.requires.cone c.requires.table
+    c.requires.within c.args.side c.vectors_on-vectors.result.now c.vectors_on-vectors.ensures.value c.vectors_on-vectors.ensures.parts

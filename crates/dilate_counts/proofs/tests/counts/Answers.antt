@@ -1,5 +1,5 @@
 use Rattle.std.specs.Prelude.{ℤ, nat_abs}
-use Rattle.std.proofs.Common.{◌≡◌, List, length, sym, ap, ◌∙◌, subst, arith}
+use Rattle.std.proofs.Common.{List, length, sym, ap, ◌∙◌, subst, arith}
 use Rattle.lattice_core.specs.Dimensions.{dimension_of}
 use Rattle.point_scan.proofs.SegmentSteps.{solid_ends, facets_of_ends}
 use Rattle.dilate_counts.specs.DilateCounts.{HasFewPoints}

@@ -1,19 +1,8 @@
 use Rattle.std.proofs.Common.{◌≡◌, arith}
 use Rattle.poset_g.specs.Numbered.{numbered}
 use Rattle.poset_g.specs.FillSteps.{number_of, place_of}
-use Rattle.poset_g.proofs.IntervalNumbers.{found_behind}
 use Rattle.poset_g.proofs.FilledRows.{filled_at, filled_from, filled_whole}
 use Rattle.poset_g.proofs.fill.fill_interval.Goals as goal
-
-pub find_between-requires-clause-lower : goal.find_between-requires-clause-lower
-find_between-requires-clause-lower c z p e = found_behind c.args.table.now c.args.places.now c.requires.ready.places c.requires.ready.faces c.args.from z p e
-
-pub find_between-requires-clause-upper : goal.find_between-requires-clause-upper
-find_between-requires-clause-upper c z p e = found_behind c.args.table.now c.args.places.now c.requires.ready.places c.requires.ready.faces z c.args.to p e
-
-pub find_between-requires-clause-order : goal.find_between-requires-clause-order
-find_between-requires-clause-order c = found_behind c.args.table.now c.args.places.now c.requires.ready.places c.requires.ready.faces c.args.from
-    c.args.to c.args.place c.requires.found
 
 pub fill_one-requires-clause-filled : goal.fill_one-requires-clause-filled
 fill_one-requires-clause-filled c = filled_from c.args.table.now c.args.places.now c.loop-number.values.items c.args.from c.args.to c.loop-number.number

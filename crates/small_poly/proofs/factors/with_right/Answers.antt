@@ -30,22 +30,26 @@ product_of-sum-requires c =
     simp to_z-of_z (small_product c.read.result c.shifted.result (shift_term (pos 1) c.args.right.now (laurent_of c.args.inner.now) c.args.p c.args.q c.loop-a.a)
     (shifted_product (pos 1) c.read.result c.shifted.result (c.read.result *ℤ c.shifted.result) c.args.right.now (laurent_of c.args.inner.now) c.args.p c.args.q c.loop-a.a
     c.read.ensures c.shifted.ensures refl)
-    (term_bound (c.args.q + 1) c.loop-a.a (shift_term (pos 1) c.args.right.now (laurent_of c.args.inner.now) c.args.p c.args.q) (to_z w128 c.loop-a.sum-bits) c.loop-a-test.true c.loop-a.invariant.bound))
+    (term_bound (c.args.q + 1) c.loop-a.a (shift_term (pos 1) c.args.right.now (laurent_of c.args.inner.now) c.args.p c.args.q)
+    (to_z w128 c.loop-a.sum-bits) c.loop-a-test.true c.loop-a.invariant.bound))
 
 pub overflow_add-sum : goal.overflow_add-sum
 overflow_add-sum c =
     let fits : SFits w128 c.product_of-sum.result = search rules in
-    simp to_z-of_z (sum_fits (c.args.q + 1) c.loop-a.a (shift_term (pos 1) c.args.right.now (laurent_of c.args.inner.now) c.args.p c.args.q) (to_z w128 c.loop-a.sum-bits) c.product_of-sum.result c.loop-a-test.true
+    simp to_z-of_z (sum_fits (c.args.q + 1) c.loop-a.a (shift_term (pos 1) c.args.right.now (laurent_of c.args.inner.now) c.args.p c.args.q)
+    (to_z w128 c.loop-a.sum-bits) c.product_of-sum.result c.loop-a-test.true
     (product_is c) c.loop-a.invariant.bound)
 
 pub loop-a-preserved : goal.loop-a-preserved
 loop-a-preserved c =
     let fits : SFits w128 c.product_of-sum.result = search rules in
-    let total : SFits w128 (to_z w128 c.loop-a.sum-bits +ℤ c.product_of-sum.result) = sum_fits (c.args.q + 1) c.loop-a.a (shift_term (pos 1) c.args.right.now (laurent_of c.args.inner.now) c.args.p c.args.q)
+    let total : SFits w128 (to_z w128 c.loop-a.sum-bits +ℤ c.product_of-sum.result) = sum_fits (c.args.q + 1) c.loop-a.a
+    (shift_term (pos 1) c.args.right.now (laurent_of c.args.inner.now) c.args.p c.args.q)
     (to_z w128 c.loop-a.sum-bits) c.product_of-sum.result c.loop-a-test.true (product_is c) c.loop-a.invariant.bound in
     record {
       sum = simp to_z-of_z (so_far (c.args.q + 1) c.loop-a.a (shift_term (pos 1) c.args.right.now (laurent_of c.args.inner.now) c.args.p c.args.q)
-          (to_z w128 c.loop-a.sum-bits) c.product_of-sum.result (times_at_product (entry c.args.right.now) (laurent_of c.args.inner.now) (pos c.args.p) c.args.q) c.loop-a-test.true (product_is c) c.loop-a.invariant.sum);
+          (to_z w128 c.loop-a.sum-bits) c.product_of-sum.result (times_at_product (entry c.args.right.now) (laurent_of c.args.inner.now)
+          (pos c.args.p) c.args.q) c.loop-a-test.true (product_is c) c.loop-a.invariant.sum);
       bound = simp to_z-of_z (next_bound (c.args.q + 1) c.loop-a.a (shift_term (pos 1) c.args.right.now (laurent_of c.args.inner.now) c.args.p c.args.q)
           (to_z w128 c.loop-a.sum-bits) c.product_of-sum.result c.loop-a-test.true (product_is c) c.loop-a.invariant.bound);
     }

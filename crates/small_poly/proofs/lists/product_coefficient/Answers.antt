@@ -39,7 +39,8 @@ loop-i-preserved c =
     (to_z w128 c.loop-i.sum-bits) c.product_of-sum.result c.loop-i-test.true (product_is c) c.loop-i.invariant.bound in
     record {
       sum = simp to_z-of_z (so_far (c.args.k + 1) c.loop-i.i (split_term c.args.a.now c.args.b.now c.args.k)
-          (to_z w128 c.loop-i.sum-bits) c.product_of-sum.result (product (entry c.args.a.now) (entry c.args.b.now) c.args.k) c.loop-i-test.true (product_is c) c.loop-i.invariant.sum);
+          (to_z w128 c.loop-i.sum-bits) c.product_of-sum.result (product (entry c.args.a.now) (entry c.args.b.now) c.args.k) c.loop-i-test.true
+          (product_is c) c.loop-i.invariant.sum);
       bound = simp to_z-of_z (next_bound (c.args.k + 1) c.loop-i.i (split_term c.args.a.now c.args.b.now c.args.k)
           (to_z w128 c.loop-i.sum-bits) c.product_of-sum.result c.loop-i-test.true (product_is c) c.loop-i.invariant.bound);
     }
