@@ -8,6 +8,7 @@ ghost use Rattle.cone_counts.specs.FaceCounts.{IsNefCone, HasCounts, count_of};
 ghost use Rattle.cone_counts.specs.Limits.{IsCountRefusal};
 
 use crate::limits::MOST_PAIRS;
+use crate::rooms::SideRooms;
 use crate::sides::{is_large, side_counts};
 use base_counts::DEGREES;
 use cayley::Cone;
@@ -48,11 +49,12 @@ fn refused(name: LimitName) -> Fault
 
 impl FaceCounts {
     /// The counts of a cone's faces. The cone is that of some nef partition of the pair, the table has its faces, and its number of parts is within the
-    /// limits that are known before a partition is. Refused are a cone with more than 2,097,152 integer vectors of some degree below its dimension, by
+    /// limits that are known before a partition is. In the rooms the points of the pair's dilates are kept for its next partition. Refused are a cone with more than 2,097,152 integer vectors of some degree below its dimension, by
     /// `ConeM`, and then one whose dual has as many, by `ConeN`; 2,097,153 is told. `NoMemory` comes where there is no memory to count.
     /// Source: alg-geom/9509009.
     pub fn of(
         alloc: Global,
+        rooms: &mut SideRooms,
         cone: &Cone,
         pair: &DualPair,
         table: &FaceTable,
@@ -64,11 +66,11 @@ impl FaceCounts {
     {
         let sum_dim = cone.dim() + cone.parts();
         let faces = table.len();
-        let m = side_counts(alloc, cone, pair, table, Side::M)?;
+        let m = side_counts(alloc, &mut rooms.m, cone, pair, table, Side::M)?;
         if is_large(&m, faces as usize, sum_dim) {
             return Err(refused(LimitName::ConeM));
         }
-        let n = side_counts(alloc, cone, pair, table, Side::N)?;
+        let n = side_counts(alloc, &mut rooms.n, cone, pair, table, Side::N)?;
         if is_large(&n, faces as usize, sum_dim) {
             return Err(refused(LimitName::ConeN));
         }

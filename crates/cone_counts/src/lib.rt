@@ -10,12 +10,14 @@
 mod counts;
 mod free;
 mod limits;
+mod rooms;
 mod sets;
 mod sides;
 mod sums;
 
 pub use counts::FaceCounts;
 pub use limits::MOST_PAIRS;
+pub use rooms::SideRooms;
 
 #[cfg(test)]
 mod tests;

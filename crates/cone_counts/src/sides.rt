@@ -15,7 +15,7 @@ use crate::sets::{face_sets, words_for};
 use crate::sums::sum_all;
 use base_counts::DEGREES;
 use cayley::Cone;
-use dilate_counts::count_dilate;
+use dilate_counts::{DilateRoom, count_dilate};
 use dual_pair::{DualPair, Polytope, Side};
 use face_poset::FaceTable;
 use lattice_core::{Functional, NoMemory};
@@ -43,9 +43,10 @@ fn vectors_on(cone: &Cone, side: Side) -> &[Functional]
     }
 }
 
-/// The numbers of vectors on a side: face by face, and last those of the whole cone, each by its degree.
+/// The numbers of vectors on a side: face by face, and last those of the whole cone, each by its degree. In the room are the points of that side.
 pub(crate) fn side_counts(
     alloc: Global,
+    room: &mut DilateRoom,
     cone: &Cone,
     pair: &DualPair,
     table: &FaceTable,
@@ -64,6 +65,7 @@ pub(crate) fn side_counts(
     let sets = face_sets(alloc, table, side, words)?;
     let mut counts = count_dilate(
         alloc,
+        room,
         polytope.vertices(),
         polytope.facets(),
         dilate,

@@ -4,7 +4,7 @@ ghost use Rattle.face_theory.specs.Pairings.{paired};
 ghost use Rattle.face_poset.specs.Faces.{IsTableOf};
 ghost use Rattle.cone_counts.specs.FaceCounts.{IsNefCone};
 
-use crate::FaceCounts;
+use crate::{FaceCounts, SideRooms};
 use bit_pool::RowPool;
 use cayley::{Cone, found_are_partitions, scan_limits};
 use dual_pair::{DualPair, Kind, Polytope, Side};
@@ -63,7 +63,8 @@ fn counts_of_polygon(alloc: Global, pair: &DualPair) -> Result<FaceCounts, Fail>
     if table.len() != 8 {
         return Err(Fail::new("eight faces"));
     }
-    Ok(FaceCounts::of(alloc, &cone, pair, &table)?)
+    let mut rooms = SideRooms::new(alloc);
+    Ok(FaceCounts::of(alloc, &mut rooms, &cone, pair, &table)?)
 }
 
 #[test]

@@ -6,4 +6,5 @@ pub mod Visits
 pub mod Starts
 pub mod FirstCounter
 pub mod Counted
+pub mod Kept
 pub mod Samples

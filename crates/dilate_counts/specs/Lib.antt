@@ -1,3 +1,4 @@
 pub mod DilateCounts
 pub mod Classes
 pub mod Counters
+pub mod KeptSteps

@@ -11,11 +11,11 @@ ghost use Rattle.dilate_counts.specs.DilateCounts.{AreDilateCounts, HasFewPoints
 
 use crate::counter::BaseCounter;
 use crate::limits::MOST_COUNTED;
+use crate::room::DilateRoom;
 use base_counts::DEGREES;
 use bit_pool::Generation;
 use face_closing::{MOST_FACES, RowTable};
 use lattice_core::{Functional, NoMemory, Point};
-use point_scan::for_each_dilate;
 use std::alloc::Global;
 
 /// A table without classes, whose rows have so many words.
@@ -35,9 +35,11 @@ fn no_classes(alloc: Global, words: usize) -> Result<RowTable, NoMemory>
 /// to 0 with the vectors of the set: set by set, and degree by degree for each set. The vertices aren't flat, `facets` are all their facets, in any order,
 /// and the dilate is at most 7 and has at most 4,194,304 lattice points. There are 1 to 4,096 vectors, with as many entries as the vertices; each is of
 /// one of at most 3 parts, which is the absolute value of its constant, and each part has a vector; the sets are at most 2^24 rows of as few words as hold
-/// a bit for each vector. Without memory it is `NoMemory`. This project's own.
+/// a bit for each vector. In the room the points are kept, whatever was counted in it before; after every answer it serves again. Without memory it is
+/// `NoMemory`. This project's own.
 pub fn count_dilate(
     alloc: Global,
+    room: &mut DilateRoom,
     vertices: &[Point],
     facets: &[Functional],
     dilate: u32,
@@ -67,6 +69,6 @@ pub fn count_dilate(
         counts: vec![in alloc; 0; sets.len() * DEGREES]?,
         left: MOST_COUNTED,
     };
-    for_each_dilate(alloc, vertices, facets, dilate, &mut counter)?;
+    room.for_each(alloc, vertices, facets, dilate, &mut counter)?;
     Ok(counter.into_counts())
 }

@@ -3,7 +3,7 @@ ghost use Rattle.std.specs.Prelude.{◌≡◌, [], ◌∷◌, IfOk};
 ghost use Rattle.lattice_theory.specs.Examples.{segment};
 ghost use Rattle.lattice_theory.proofs.SegmentFacets.{lower, upper};
 
-use crate::{MOST_COUNTED, count_dilate};
+use crate::{DilateRoom, MOST_COUNTED, count_dilate};
 use bit_pool::Generation;
 use lattice_core::{Functional, NoMemory, Point};
 use point_scan::count_to;
@@ -61,8 +61,8 @@ fn sets(alloc: Global) -> Result<Generation, bit_pool::NoMemory>
     Ok(sets)
 }
 
-/// The counts of the double's points, or none where these are too many.
-fn counts(alloc: Global, sets: &Generation) -> Result<Vec<u32>, NoMemory>
+/// The counts of the double's points in a room, or none where these are too many.
+fn counts(alloc: Global, room: &mut DilateRoom, sets: &Generation) -> Result<Vec<u32>, NoMemory>
     requires { sets.now.rows ≡ (1 ∷ []) ∷ (0 ∷ []) ∷ [] }
 {
     let ends = ends(alloc)?;
@@ -71,16 +71,19 @@ fn counts(alloc: Global, sets: &Generation) -> Result<Vec<u32>, NoMemory>
         return Ok(Vec::new(alloc));
     }
     let vectors = [function(-1, 0), function(0, 0), function(1, 0)];
-    count_dilate(alloc, &ends, &facets, 2, 1, &vectors, sets)
+    count_dilate(alloc, room, &ends, &facets, 2, 1, &vectors, sets)
 }
 
 #[test]
-fn counts_the_points_of_a_segment(rt: HostRuntime) -> Result<(), Fail> {
+fn counts_the_points_of_a_segment_in_a_room(rt: HostRuntime) -> Result<(), Fail> {
     let sets = sets(rt.alloc())?;
-    let counts = counts(rt.alloc(), &sets)?;
-    assert_eq!(rt;
-        counts.as_slice(),
-        [1, 1, 1, 1, 1, 1, 1, 1, 2, 2, 2, 2, 1, 1].as_slice()
-    );
+    let mut room = DilateRoom::new(rt.alloc());
+    for _ in 0..2 {
+        let counts = counts(rt.alloc(), &mut room, &sets)?;
+        assert_eq!(rt;
+            counts.as_slice(),
+            [1, 1, 1, 1, 1, 1, 1, 1, 2, 2, 2, 2, 1, 1].as_slice()
+        );
+    }
     Ok(())
 }

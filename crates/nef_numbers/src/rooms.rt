@@ -14,7 +14,7 @@ ghost use Rattle.nef_numbers.specs.declared.limits.TheConstants.{FEW, MOST_RAYS,
 use crate::limits::{FEW, MOST_FUNCTIONS, MOST_RAYS};
 use bit_pool::{MOST_TURNS, RowPool};
 use cayley::Cone;
-use cone_counts::FaceCounts;
+use cone_counts::{FaceCounts, SideRooms};
 use dual_pair::DualPair;
 use face_poset::{BuildFault, FaceTable};
 use incidence::Incidence;
@@ -24,13 +24,14 @@ use std::alloc::Global;
 use std::marker::Model;
 use stringy::{EPoly, e_poly};
 
-/// The room in which the faces of cones are found, one cone after another: a pool for the rows of a cone, and two tables of faces, one for cones with
-/// few rays and functions. Contracts see nothing of it.
+/// The room in which the faces of cones are found, one cone after another: a pool for the rows of a cone, two tables of faces, one for cones with
+/// few rays and functions, and rooms for the points of a pair's dilates. Contracts see nothing of it.
 #[derive(Drop)]
 pub struct ConeRooms {
     pool: RowPool,
     small: FaceTable,
     large: FaceTable,
+    points: SideRooms,
 }
 
 impl Model for ConeRooms {
@@ -147,6 +148,7 @@ fn coefficients_of(alloc: Global, table: &FaceTable) -> Result<GTable, Fault>
 /// The numbers of a cone of so many parts, from a table of its faces.
 fn numbers_of_faces(
     alloc: Global,
+    points: &mut SideRooms,
     table: &FaceTable,
     cone: &Cone,
     pair: &DualPair,
@@ -159,7 +161,7 @@ fn numbers_of_faces(
     requires faces { HasFaces cone.now table.now }
     ensures { MatchResult result (HasConeNumbers cone.now) (Stops (IsConeRefusal cone.now)) }
 {
-    let counts = FaceCounts::of(alloc, cone, pair, table)?;
+    let counts = FaceCounts::of(alloc, points, cone, pair, table)?;
     let values = coefficients_of(alloc, table)?;
     Ok(e_poly(&counts, table, &values, parts))
 }
@@ -170,7 +172,13 @@ impl ConeRooms {
         let pool = open_pool(alloc)?;
         let small = open_table(alloc, FEW, FEW)?;
         let large = open_table(alloc, MOST_RAYS, MOST_FUNCTIONS)?;
-        Ok(ConeRooms { pool, small, large })
+        let points = SideRooms::new(alloc);
+        Ok(ConeRooms {
+            pool,
+            small,
+            large,
+            points,
+        })
     }
 
     /// The numbers of a cone of so many parts.
@@ -190,9 +198,9 @@ impl ConeRooms {
         clear_pool(alloc, &mut self.pool)?;
         if has_few(cone) {
             find_faces(cone, &mut self.pool, &mut self.small)?;
-            return numbers_of_faces(alloc, &self.small, cone, pair, parts);
+            return numbers_of_faces(alloc, &mut self.points, &self.small, cone, pair, parts);
         }
         find_faces(cone, &mut self.pool, &mut self.large)?;
-        numbers_of_faces(alloc, &self.large, cone, pair, parts)
+        numbers_of_faces(alloc, &mut self.points, &self.large, cone, pair, parts)
     }
 }

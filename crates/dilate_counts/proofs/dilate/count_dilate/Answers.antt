@@ -19,14 +19,14 @@ invariant_of-counter c =
 
 pub into_counts-requires : goal.into_counts-requires
 into_counts-requires c = record {
-  few = few_totals c.args.vertices.now c.args.dilate _ c.for_each_dilate.new.visitor c.requires.few c.in_ok-for_each_dilate.field-0
-      c.in_ok-for_each_dilate.ensures.visits refl c.len.result c.in_ok-no_classes.ensures.empty (c.in_ok-vec-4.ensures.items_if_clones_equal (λ y h. h)) c.len.ensures;
+  few = few_totals c.args.vertices.now c.args.dilate _ c.for_each.new.visitor c.requires.few c.in_ok-for_each.field-0
+      c.in_ok-for_each.ensures refl c.len.result c.in_ok-no_classes.ensures.empty (c.in_ok-vec-4.ensures.items_if_clones_equal (λ y h. h)) c.len.ensures;
 }
 
 pub returns : goal.returns
 returns c =
     let parts : length c.in_ok-vec.field-0.items ≡ c.args.parts = search rules in
-    dilate_counted c.args.vertices.now c.args.dilate _ c.for_each_dilate.new.visitor c.requires.few c.in_ok-for_each_dilate.field-0
-    c.in_ok-for_each_dilate.ensures.visits refl c.len.result c.in_ok-no_classes.ensures.empty
+    dilate_counted c.args.vertices.now c.args.dilate _ c.for_each.new.visitor c.requires.few c.in_ok-for_each.field-0
+    c.in_ok-for_each.ensures refl c.len.result c.in_ok-no_classes.ensures.empty
     (c.in_ok-vec-4.ensures.items_if_clones_equal (λ y h. h)) c.len.ensures c.into_counts.result.items c.into_counts.ensures.shared c.into_counts.ensures.whole
     c.args.parts parts
