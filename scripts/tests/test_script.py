@@ -37,7 +37,7 @@ class Words(unittest.TestCase):
         self.assertIn("writes exactly the report", " ".join(wrote.split()))
 
     def test_explain(self):
-        for name in ("WeightSum", "points", "flat", "3", "69", "70", "73", "75", "130", "Conflict"):
+        for name in ("WeightSum", "points", "flat", "3", "69", "70", "73", "75", "130", "Conflict", "ScanM", "ScanN", "ConeFaces", "ConeN", "Coef"):
             status, wrote, said = self.palp("explain", name)
             self.assertEqual((status, said), (0, ""))
             self.assertLessEqual(max(len(it) for it in wrote.splitlines()), 80)
